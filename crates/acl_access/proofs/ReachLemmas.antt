@@ -1,4 +1,4 @@
--- What is kept of all users by their places tells the same as each user's own check.
+-- What is kept of all users by their places reports the same as each user's own check.
 use Rattle.std.proofs.Common.{◌≡◌, ◌∙◌, ℕ, zero, suc, ◌+◌, ◌<◌, ◌++◌, ◌&&◌, Bool, true, false, cond, List, [], ◌∷◌, Option, add-zero, zero-add, ap, append_assoc, append-nil, arith, get_or, length, length-append, map, refl, sym, take}
 use Rattle.std.specs.List.{enumerate_from, filter_map, flat_map, list_all}
 use Rattle.std.proofs.lemmas.List.{flat_map_more, map-append, take_more}
@@ -61,9 +61,9 @@ module _ {X : Type 0} (items : List X) (at : ℕ) (item : X) (within : at < leng
       more ∙ ap (λ front. front ++ made ∷ []) was ∙ ap (λ made. map f (enumerate_from 0 (take at items)) ++ made ∷ []) is
       ∙ sym (map-append f (enumerate_from 0 (take at items)) ((at, item) ∷ [])) ∙ ap (map f) (sym (enumerate_more items at item within here))
 
-  pub next_told : {Y : Type 0} (f : ℕ × X → List Y) (first old new : List Y) → old ≡ first ++ flat_map f (enumerate_from 0 (take at items)) → new ≡ old ++ f (at, item)
+  pub next_reported : {Y : Type 0} (f : ℕ × X → List Y) (first old new : List Y) → old ≡ first ++ flat_map f (enumerate_from 0 (take at items)) → new ≡ old ++ f (at, item)
       → new ≡ first ++ flat_map f (enumerate_from 0 (take (at + 1) items))
-  next_told f first old new was more =
+  next_reported f first old new was more =
       more ∙ ap (λ front. front ++ f (at, item)) was ∙ flat_map_more f first (enumerate_from 0 (take at items)) (at, item)
       ∙ ap (λ items. first ++ flat_map f items) (sym (enumerate_more items at item within here))
 

@@ -1,4 +1,4 @@
--- What somebody may do with a file, letter by letter.
+-- What a file grants somebody, letter by letter.
 use Rattle.std.specs.Prelude.{◌≡◌, ℕ, zero, suc, ◌^◌, ◌&&◌, Bool, List, if◌then◌else◌}
 use Rattle.acl_names.specs.Bits.{◌∪◌, has}
 use Rattle.acl_names.specs.Requester.{Identity}
@@ -25,11 +25,11 @@ abbrev pub decided_bits : AnyAcl → ℕ
 decided_bits (Posix acl) = mode_bits
 decided_bits (Nfs4 acl) = all_masks
 
--- whether the bit is granted by itself: to write is both to write within a file and behind its end
+-- whether the bit is granted by itself: to write is both to write within a file and after its end
 abbrev pub grants_bit : File → Identity → ℕ → Bool
 grants_bit file requester bit = has (decided_bits file.list) bit && decider_of file requester bit
 
--- of so many bits those for which the test passes
+-- the bits, of so many, for which the test passes
 unfoldable pub bits_where : (ℕ → Bool) → ℕ → ℕ
 bits_where test zero = 0
 bits_where test (suc bit) = bits_where test bit ∪ (if test bit then 2 ^ bit else 0)
@@ -48,7 +48,7 @@ BitsAreGranted =
     (file : File) (requester : Identity) (bit : ℕ)
     → has (granted_mask file requester) bit ≡ grants_bit file requester bit
 
--- of a POSIX list it has what the letters r, w and x stand for, each by itself
+-- for a POSIX list it has the bits that the letters r, w and x mean, each by itself
 abbrev pub LettersStandForBits : Type 0
 LettersStandForBits =
     (file : File) (requester : Identity) (acl : List EntryValue) → file.list ≡ Posix acl

@@ -1,10 +1,10 @@
--- How answers print paths.
+-- How commands print paths.
 use Rattle.std.specs.Prelude.{ℕ, Bool, ◌||◌, ◌==◌, nat_lt, List, [], ◌∷◌, if◌then◌else◌}
 use Rattle.std.specs.List.{flat_map}
 use Rattle.acl_names.specs.Bytes.{space}
 use Rattle.acl_names.specs.Shown.{octal}
 
--- a byte that may steer a terminal, or ends a line: below a blank, or the one that deletes
+-- a byte that could control a terminal or end a line: below a blank, or delete
 abbrev pub is_control : ℕ → Bool
 is_control byte = nat_lt byte space || byte == 127
 

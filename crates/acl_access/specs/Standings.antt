@@ -1,4 +1,4 @@
--- What is kept of a user for each file that may be deleted, or may have something in it that is.
+-- What is kept of a user for each file that the user may want to delete, or to delete something in.
 -- Private steps, which no public clause of another crate needs to be believed for.
 use Rattle.std.specs.Prelude.{ℕ, ◌&&◌, ◌||◌, Bool, not, List}
 use Rattle.std.specs.List.{zip}
@@ -17,7 +17,7 @@ standing_of sticky file requester = record {
   free = not sticky || owns file requester;
 }
 
--- whether who stands so to a folder, and so to a file in it, may delete the file
+-- whether a user with these standings to a folder and to a file in it may delete the file
 abbrev pub takes : Standing → Standing → Bool
 takes folder file =
     deletes_by file.delete folder.delete_child (folder.adds && (folder.free || file.owns))

@@ -20,7 +20,7 @@ granted_alone acl owner group requester =
     if_granted acl owner group requester 4 ∪ if_granted acl owner group requester 2
     ∪ if_granted acl owner group requester 1
 
--- of a POSIX list only bits of a file mode are asked
+-- a POSIX list is compared only in bits of a file mode
 abbrev pub IsComparedIn : AnyAcl → ℕ → Type 0
 IsComparedIn (Posix acl) bits = (bits ≡ mode_bits) ⊎ (bits ≡ permission_bits)
 IsComparedIn (Nfs4 acl) bits = ⊤

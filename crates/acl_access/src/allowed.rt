@@ -1,4 +1,4 @@
-//! Which bits a file's list allows somebody.
+//! Which bits a file's list grants.
 ghost use Rattle.std.specs.Prelude.{◌≡◌, ◌⊎◌, ℕ, ◌&&◌, if◌then◌else◌};
 ghost use Rattle.acl_names.specs.Bits.{has};
 ghost use Rattle.acl_nfs4.specs.Mask.{mask_bits, mode_bits};
@@ -27,7 +27,7 @@ fn if_granted<S: Subject>(acl: &Acl, owner: Uid, group: Gid, subject: &S, perm: 
     }
 }
 
-/// The permissions that the list grants, each by itself.
+/// The permissions of which the list grants each by itself.
 fn granted_alone<S: Subject>(acl: &Acl, owner: Uid, group: Gid, subject: &S) -> Perms
     ensures { bits_of result ≡ granted_alone acl.now owner group (S.identity subject.now) }
 {
@@ -36,7 +36,7 @@ fn granted_alone<S: Subject>(acl: &Acl, owner: Uid, group: Gid, subject: &S) -> 
         | if_granted(acl, owner, group, subject, Perms::EXECUTE)
 }
 
-/// Those of the bits that a POSIX list decides to allow the subject: bits of a file mode.
+/// The bits of `bits` that a POSIX list grants the subject, out of those of a file mode.
 fn allowed_alone<S: Subject>(acl: &Acl, owner: Uid, group: Gid, subject: &S, bits: Mask) -> Mask
     requires { (mask_bits bits ≡ mode_bits) ⊎ (mask_bits bits ≡ permission_bits) }
     ensures { (bit : ℕ) → has (mask_bits result) bit
@@ -45,7 +45,7 @@ fn allowed_alone<S: Subject>(acl: &Acl, owner: Uid, group: Gid, subject: &S, bit
     bits.intersection(mask_of(granted_alone(acl, owner, group, subject)))
 }
 
-/// Those of the bits that the file's list allows the subject: of a POSIX list bits of a file
+/// The bits of `bits` that the file's list grants the subject; a POSIX list grants bits of a file
 /// mode. It takes no memory.
 pub(crate) fn allowed<S: Subject>(file: &FileAcl<'_>, subject: &S, bits: Mask) -> Mask
     requires { IsComparedIn (view_acl file.now).list (mask_bits bits) }

@@ -1,4 +1,4 @@
-//! Whether anybody else loses or gains anything, beside those who are known.
+//! Whether anybody loses or gains access who isn't a known user.
 ghost use Rattle.std.specs.Prelude.{◌≡◌, IfOk};
 ghost use Rattle.acl_posix.specs.Validity.{IsValid};
 ghost use Rattle.acl_bridge.specs.Files.{view_acl};
@@ -13,7 +13,7 @@ use acl_nfs4::{AboutWho, Acl4, Compared, Difference, difference_with, is_known, 
 use acl_posix::Acl;
 use std::alloc::{AllocError, Global};
 
-/// A file that becomes another, for everybody but uid 0 and these.
+/// A file before and after a change, for everybody but uid 0 and the known users.
 #[derive(Clone, Copy)]
 struct Others<'a> {
     before: &'a FileAcl<'a>,
@@ -45,8 +45,8 @@ impl<'a> Compared for Others<'a> {
     }
 }
 
-/// Who of the others loses or gains something, among the askers of pairs of entries. It fails only
-/// if nearly all ids are those of users who are known.
+/// A requester who loses or gains something, out of those for pairs of entries. Fails only if
+/// nearly all ids are those of known users.
 fn among<E: AboutWho>(
     others: &Others<'_>,
     first: &[E],
@@ -75,7 +75,7 @@ fn among<E: AboutWho>(
     }
 }
 
-/// The list as an NFSv4 list, which decides each of the bits of a file mode alike.
+/// The NFSv4 list that grants the same bits of a file mode.
 fn as_nfs4(alloc: Global, acl: &Acl) -> Result<Acl4, AllocError>
     ensures list { IfOk result (λ aces. aces ≡ translation acl.now) }
     ensures valid { IsValid acl.now }
@@ -85,12 +85,12 @@ fn as_nfs4(alloc: Global, acl: &Acl) -> Result<Acl4, AllocError>
     translate(alloc, acl)
 }
 
-/// Whether anybody else loses or gains anything if a file becomes another, each with its own owner,
-/// group and list: somebody who is neither uid 0 nor one of these. None exactly if every requester
-/// of another uid, in whatever groups, is decided about as before; else someone in at most two
-/// groups who is not, and what is lost and gained. If the style of the list changed, single
-/// permissions are compared, and no request of several. It fails only if memory runs out, or if
-/// nearly all ids are those of users who are known.
+/// Whether anybody but uid 0 and the known users loses or gains access when `before` becomes
+/// `after`, each with its own owner, group and list. `None` exactly if every requester of another
+/// uid, in whatever groups, is granted the same as before; else a requester in at most two groups
+/// who isn't, with what is lost and gained. If the style of the list changes, it compares each
+/// permission by itself, and no request of several. Fails only if memory runs out, or nearly all
+/// ids are those of known users.
 pub fn change_for_anybody(
     alloc: Global,
     before: &FileAcl<'_>,

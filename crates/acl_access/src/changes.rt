@@ -1,4 +1,4 @@
-//! What lists decide otherwise for somebody.
+//! What somebody loses or gains between two lists.
 ghost use Rattle.std.specs.Prelude.{◌≡◌, MatchOption, map};
 ghost use Rattle.acl_nfs4.specs.Mask.{mask_bits};
 ghost use Rattle.acl_posix.specs.Perms.{bits_of};
@@ -16,7 +16,7 @@ use acl_nfs4::{Mask, Owners};
 use acl_posix::{Acl, Perms, without};
 use bitflags::Flags;
 
-/// What somebody loses and gains.
+/// What a requester loses and gains.
 #[derive(Clone, Copy, Debug, PartialEq, Eq)]
 pub struct Change {
     /// What is granted only before.
@@ -25,7 +25,7 @@ pub struct Change {
     pub gained: Mask,
 }
 
-/// Over which bits the lists are compared.
+/// The bits in which the lists are compared.
 fn bits_between(before: &FileAcl<'_>, after: &FileAcl<'_>) -> Mask
     ensures { mask_bits result
         ≡ bits_between (view_acl before.now).list (view_acl after.now).list }
@@ -37,7 +37,7 @@ fn bits_between(before: &FileAcl<'_>, after: &FileAcl<'_>) -> Mask
     }
 }
 
-/// What the requester loses or gains of the bits that are compared.
+/// What the requester loses or gains of these bits; `None` if nothing.
 fn change_of_bits<S: Subject>(
     before: &FileAcl<'_>,
     after: &FileAcl<'_>,
@@ -72,7 +72,7 @@ struct Lists<'a> {
     other_owners: &'a Owners,
 }
 
-/// Whether the requester loses or gains the request as a whole.
+/// The request, if the requester loses or gains it as a whole.
 fn change_in<S: Subject>(lists: &Lists<'_>, subject: &S, request: Perms) -> Option<Change>
     ensures { MatchOption result
         (grants_before lists.now (S.identity subject.now) (bits_of request)
@@ -89,21 +89,21 @@ fn change_in<S: Subject>(lists: &Lists<'_>, subject: &S, request: Perms) -> Opti
     if was == is {
         return None;
     }
-    let told = mask_for(request);
+    let reported = mask_for(request);
     Some(if was {
         Change {
-            lost: told,
+            lost: reported,
             gained: Mask::empty(),
         }
     } else {
         Change {
             lost: Mask::empty(),
-            gained: told,
+            gained: reported,
         }
     })
 }
 
-/// The first of the requests that the requester loses or gains.
+/// The first of the requests that the requester loses or gains as a whole.
 fn first_change<S: Subject>(lists: &Lists<'_>, subject: &S, requests: &[Perms]) -> Option<Change>
     ensures { MatchOption result
         (RequestsAlikeTo (grants_before lists.now) (grants_after lists.now)
@@ -119,8 +119,7 @@ fn first_change<S: Subject>(lists: &Lists<'_>, subject: &S, requests: &[Perms]) 
     None
 }
 
-/// The first of the requests of several permissions that the requester loses or gains, of POSIX
-/// lists.
+/// The first request of several permissions that the requester loses or gains, for POSIX lists.
 fn change_of_requests<S: Subject>(
     before: &FileAcl<'_>,
     after: &FileAcl<'_>,
@@ -148,9 +147,9 @@ fn change_of_requests<S: Subject>(
     }
 }
 
-/// What the requester loses and gains if a file becomes another, each with its own owner, group and
-/// list: none exactly if each permission, and each request of several that can be told apart from
-/// them, is decided for the requester as it was. It takes no memory.
+/// What the requester loses and gains when `before` becomes `after`, each with its own owner, group
+/// and list. `None` exactly if each permission is granted as before, and for POSIX lists also each
+/// request of several. It takes no memory.
 pub fn change_for<S: Subject>(
     before: &FileAcl<'_>,
     after: &FileAcl<'_>,

@@ -1,4 +1,4 @@
-//! What somebody may do with a file, letter by letter.
+//! What a file grants somebody, letter by letter.
 ghost use Rattle.std.specs.Prelude.{◌≡◌, ◌==◌, ◌++◌, List, OnOk, ℕ};
 ghost use Rattle.acl_names.specs.Requester.{Identity};
 ghost use Rattle.acl_nfs4.specs.Mask.{mask_bits};
@@ -27,7 +27,8 @@ fn if_may(file: &FileAcl<'_>, requester: &Requester, perm: Perms) -> Perms
     }
 }
 
-/// What the file's list grants the requester, each permission by itself. It takes no memory.
+/// The permissions of which the file's list grants the requester each by itself. It takes no
+/// memory.
 pub fn effective(file: &FileAcl<'_>, requester: &Requester) -> Perms
     ensures { bits_of result ≡ effective (view_acl file.now) requester.now }
 {
@@ -36,8 +37,8 @@ pub fn effective(file: &FileAcl<'_>, requester: &Requester) -> Perms
         | if_may(file, requester, Perms::EXECUTE)
 }
 
-/// The bits of a mask that the file's list grants the requester, each by itself: of a POSIX list
-/// those that its permissions stand for. It takes no memory.
+/// The bits of a mask of which the file's list grants the requester each by itself; for a POSIX
+/// list, those that its permissions mean. It takes no memory.
 pub fn granted_mask(file: &FileAcl<'_>, requester: &Requester) -> Mask
     ensures { mask_bits result ≡ granted_mask (view_acl file.now) requester.now }
 {
@@ -47,31 +48,31 @@ pub fn granted_mask(file: &FileAcl<'_>, requester: &Requester) -> Mask
     }
 }
 
-/// Letters that report what is granted, each by itself: the permissions of a file mode, or the bits
-/// of a mask.
+/// Letters for what is granted, each by itself: the permissions of a file mode, or the bits of a
+/// mask.
 pub trait LetterSet: Copy + Drop {
-    /// The number whose bits they are.
+    /// The set as a number with these bits.
     ghost number: { Self → ℕ };
 
-    /// Those that a file grants somebody, by their number.
+    /// What a file grants a requester, as a number.
     ghost granted: { File → Identity → ℕ };
 
-    /// How those of a number are written.
+    /// How the set of a number is printed.
     ghost text: { ℕ → List ℕ };
 
-    /// None of them.
+    /// The empty set.
     fn none() -> Self
         ensures { number result ≡ 0 };
 
-    /// Whether there is none.
+    /// Whether the set is empty.
     fn is_none(&self) -> bool
         ensures { result ≡ (number self.now == 0) };
 
-    /// Those that the file grants the requester. It takes no memory.
+    /// What the file grants the requester, each by itself. It takes no memory.
     fn granted(file: &FileAcl<'_>, requester: &Requester) -> Self
         ensures { number result ≡ granted (view_acl file.now) requester.now };
 
-    /// Appends how they are written.
+    /// Appends the letters, with `-` for each that is denied. Fails only if memory runs out.
     fn push(&self, out: &mut Vec<u8>) -> Result<(), AllocError>
         ensures { OnOk result (out.new.items ≡ out.old.items ++ text (number self.now)) };
 }

@@ -1,5 +1,5 @@
-//! Who may do what with a file, and what changes for whom if it becomes another: by its owners and
-//! its list, of either style.
+//! Who may do what with a file, and for whom that changes with the file's owners and list, of
+//! either style.
 #![tactic(auto)]
 
 mod allowed;
@@ -20,5 +20,7 @@ pub use letters::{LetterSet, effective, granted_mask};
 pub use marks::{both, is_set, letters_at, letters_of_each, places_of_those_who_may, which_may};
 pub use path::{PrintedPath, push_printed_path};
 pub use same::is_same_file;
-pub use standing::{Standing, deletes_by, places_of_takers, standings_of_each};
+pub use standing::{
+    Standing, deletes, deletes_by, places_of_takers, standing_of, standings_of_each,
+};
 pub use who::{push_letters_line, push_may_line};

@@ -1,4 +1,4 @@
-//! What a file grants all users at once.
+//! What a file grants each of many users.
 ghost use Rattle.std.specs.Prelude.{◌≡◌, ◌++◌, ◌∷◌, [], IfOk, OnOk, if◌then◌else◌, map};
 ghost use Rattle.acl_posix.specs.Perms.{bits_of};
 ghost use Rattle.acl_bridge.specs.Files.{may, view_acl};
@@ -11,8 +11,8 @@ use acl_names::Requester;
 use acl_posix::Perms;
 use std::alloc::{AllocError, Global};
 
-/// Of each of the requesters, in their order, whether the file grants the permissions. It fails
-/// only if memory runs out.
+/// For each of the requesters, in their order, whether the file grants all of the permissions.
+/// Fails only if memory runs out.
 pub fn which_may(
     alloc: Global,
     requesters: &[Requester],
@@ -29,8 +29,8 @@ pub fn which_may(
     Ok(which)
 }
 
-/// Of each of the requesters, in their order, the letters that the file grants. It fails
-/// only if memory runs out.
+/// For each of the requesters, in their order, the letters that the file grants. Fails only if
+/// memory runs out.
 pub fn letters_of_each<L: LetterSet>(
     alloc: Global,
     requesters: &[Requester],
@@ -46,8 +46,8 @@ pub fn letters_of_each<L: LetterSet>(
     Ok(letters)
 }
 
-/// The places of those requesters whom the file grants the permissions. It fails only if memory
-/// runs out.
+/// The places of the requesters to whom the file grants all of the permissions, in their order.
+/// Fails only if memory runs out.
 pub fn places_of_those_who_may(
     alloc: Global,
     requesters: &[Requester],
@@ -64,7 +64,7 @@ pub fn places_of_those_who_may(
     Ok(places)
 }
 
-/// Appends the place, if it is one. It fails only if memory runs out.
+/// Appends the place if `is` is true. Fails only if memory runs out.
 pub(crate) fn push_if(places: &mut Vec<usize>, place: usize, is: bool) -> Result<(), AllocError>
     ensures { OnOk result (places.new.items
         ≡ places.old.items ++ (if is then place ∷ [] else [])) }
@@ -75,7 +75,7 @@ pub(crate) fn push_if(places: &mut Vec<usize>, place: usize, is: bool) -> Result
     Ok(())
 }
 
-/// Of each place of the one whether it is set in both. It fails only if memory runs out.
+/// For each place of `one`, whether it is set in both. Fails only if memory runs out.
 pub fn both(alloc: Global, one: &[bool], other: &[bool]) -> Result<Vec<bool>, AllocError>
     ensures { IfOk result (λ marks. marks.items ≡ both one.now other.now) }
 {
@@ -86,21 +86,21 @@ pub fn both(alloc: Global, one: &[bool], other: &[bool]) -> Result<Vec<bool>, Al
     Ok(marks)
 }
 
-/// Whether the mark is set, and the place.
+/// Whether the mark and the place in `other` are both set.
 fn mark_in_both(mark: bool, other: &[bool], place: usize) -> bool
     ensures { result ≡ mark_in_both other.now (place, mark) }
 {
     mark && is_set(other, place)
 }
 
-/// Whether the place is set.
+/// Whether the place is set; a place beyond the end isn't.
 pub fn is_set(marks: &[bool], place: usize) -> bool
     ensures { result ≡ is_set marks.now place }
 {
     marks.get(place).copied().unwrap_or(false)
 }
 
-/// The letters at a place, if it is one of those that are set.
+/// The letters at the place, or none if `reach` isn't set there.
 pub fn letters_at<L: LetterSet>(letters: &[L], reach: &[bool], place: usize) -> L
     ensures { L.number result ≡ letters_at (map L.number letters.now) reach.now place }
 {

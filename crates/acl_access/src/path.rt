@@ -1,4 +1,4 @@
-//! Paths as answers print them.
+//! Paths as commands print them.
 ghost use Rattle.std.specs.Prelude.{◌≡◌, ◌++◌, IfOk, OnOk};
 ghost use Rattle.std.specs.List.{list_any};
 ghost use Rattle.acl_access.specs.Paths.{is_control, path_byte, printed_path};
@@ -7,26 +7,26 @@ use acl_names::octal;
 use std::alloc::{AllocError, Global};
 use std::marker::Model;
 
-/// Whether the byte may steer a terminal, or ends a line.
+/// Whether the byte could control a terminal or end a line.
 fn is_control(byte: u8) -> bool
     ensures { result ≡ is_control byte }
 {
     byte < b' ' || byte == 127
 }
 
-/// Whether one of the bytes does.
+/// Whether any byte is such a control.
 fn has_controls(path: &[u8]) -> bool
     ensures { result ≡ list_any is_control path.now }
 {
     let mut found = false;
-    // To the end, so that many bytes are looked at in one step.
+    // It goes on to the end, so that one step compares many bytes.
     for byte in path {
         found |= is_control(*byte);
     }
     found
 }
 
-/// Appends a byte as it is printed.
+/// Appends a byte as paths are printed.
 fn push_byte(byte: u8, out: &mut Vec<u8>) -> Result<(), AllocError>
     ensures { OnOk result (out.new.items ≡ out.old.items ++ path_byte byte) }
 {
@@ -39,8 +39,8 @@ fn push_byte(byte: u8, out: &mut Vec<u8>) -> Result<(), AllocError>
     Ok(())
 }
 
-/// Appends a path as answers print it: each byte below 32, and 127, as `\` and three octal digits.
-/// It fails only if memory runs out.
+/// Appends a path as commands print it: each byte below 32, and 127, as `\` and three octal digits.
+/// Fails only if memory runs out.
 pub fn push_printed_path(path: &[u8], out: &mut Vec<u8>) -> Result<(), AllocError>
     ensures { OnOk result (out.new.items ≡ out.old.items ++ printed_path path.now) }
 {
@@ -59,12 +59,12 @@ fn escaped(alloc: Global, path: &[u8]) -> Result<Vec<u8>, AllocError>
     Ok(text)
 }
 
-/// A path as answers print it, so that none steers a terminal, or ends a line. A contract sees the
-/// bytes that are printed.
+/// A path as commands print it, so that it can't control a terminal or end a line. A contract sees
+/// the printed bytes.
 #[derive(Drop)]
 pub struct PrintedPath<'t> {
     path: &'t [u8],
-    /// What is printed, if that isn't the path.
+    /// The printed bytes, if they differ from the path.
     escaped: Option<Vec<u8>>,
 }
 
@@ -79,8 +79,8 @@ impl<'t> Model for PrintedPath<'t> {
 }
 
 impl<'t> PrintedPath<'t> {
-    /// The path as it is printed. It fails only if memory runs out, and takes none for a path that
-    /// is printed as it is.
+    /// The path as it is printed. It takes no memory if that is the path itself. Fails only if
+    /// memory runs out.
     pub fn of(alloc: Global, path: &'t [u8]) -> Result<PrintedPath<'t>, AllocError>
         ensures { IfOk result (λ printed. printed ≡ printed_path path.entry.now) }
     {
@@ -92,7 +92,7 @@ impl<'t> PrintedPath<'t> {
         Ok(PrintedPath { path, escaped })
     }
 
-    /// The bytes that are printed.
+    /// The printed bytes.
     pub fn bytes(&self) -> &[u8]
         ensures { result.now ≡ self.now }
     {

@@ -1,11 +1,11 @@
-//! Files whose lists are the same, which need no comparison.
+//! Files with the same list, which need no comparison.
 ghost use Rattle.std.specs.Prelude.{◌≡◌, ◌↔◌, IsTrue};
 ghost use Rattle.acl_bridge.specs.Files.{view_acl, view_list};
 ghost use Rattle.acl_access.specs.Changes.{IsAlikeToAll};
 
 use acl_bridge::{AnyAclRef, FileAcl};
 
-/// Whether the lists have the same entries, in one order.
+/// Whether the lists have the same entries in the same order.
 fn has_same_entries(before: AnyAclRef<'_>, after: AnyAclRef<'_>) -> bool
     ensures { IsTrue result ↔ (view_list before.entry ≡ view_list after.entry) }
 {
@@ -16,8 +16,8 @@ fn has_same_entries(before: AnyAclRef<'_>, after: AnyAclRef<'_>) -> bool
     }
 }
 
-/// Whether two files have one owner, one group, and the same entries in their lists, in one order.
-/// Then everyone is decided about alike. It takes no memory.
+/// Whether both files have the same owner and group, and lists with the same entries in the same
+/// order. Then both grant everyone the same. It takes no memory.
 pub fn is_same_file(before: &FileAcl<'_>, after: &FileAcl<'_>) -> bool
     ensures same { IsTrue result ↔ (view_acl before.now ≡ view_acl after.now) }
     ensures alike { IsTrue result → IsAlikeToAll (view_acl before.now) (view_acl after.now) }

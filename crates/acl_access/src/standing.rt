@@ -1,10 +1,10 @@
-//! How users stand to files that are to be deleted, or have in them what is.
+//! What decides whether a user may delete a file: what the file and its folder grant.
 ghost use Rattle.std.specs.Prelude.{◌≡◌, ◌^◌, ℕ, IfOk, map, unwrap_or, false};
 ghost use Rattle.acl_nfs4.specs.Evaluation.{speaks, verdict};
 ghost use Rattle.acl_nfs4.specs.Mask.{mask_bits};
 ghost use Rattle.acl_nfs4.specs.Who.{matches};
 ghost use Rattle.acl_bridge.specs.Files.{view_acl};
-ghost use Rattle.acl_access.specs.Deletes.{adds, deletes_by, owns, said_of};
+ghost use Rattle.acl_access.specs.Deletes.{adds, deletes, deletes_by, owns, said_of};
 ghost use Rattle.acl_access.specs.Standings.{places_of_takers, standing_of, takes};
 
 use crate::marks::push_if;
@@ -15,21 +15,23 @@ use acl_posix::Perms;
 use bitflags::Flags;
 use std::alloc::{AllocError, Global};
 
-/// How a user stands to a file that is to be deleted, or has in it what is.
+/// What decides, for one user and one file, whether the user may delete it, or what is in it.
 #[derive(Clone, Copy, Debug, PartialEq, Eq)]
 pub struct Standing {
-    /// What its list says of `DELETE`, if it speaks of it.
-    delete: Option<bool>,
-    /// What its list says of `DELETE_CHILD`, if it speaks of it.
-    delete_child: Option<bool>,
-    /// Whether to add something to it is granted.
-    adds: bool,
-    owns: bool,
-    /// Whether others' files may be taken from it: it has no sticky bit, or is the user's own.
-    free: bool,
+    /// Whether its list allows or denies `DELETE`; `None` if no entry has that bit.
+    pub delete: Option<bool>,
+    /// Whether its list allows or denies `DELETE_CHILD`; `None` if no entry has that bit.
+    pub delete_child: Option<bool>,
+    /// Whether its list lets the user add files to it.
+    pub adds: bool,
+    /// Whether the user owns it.
+    pub owns: bool,
+    /// Whether the user may remove files of others from it: it has no sticky bit, or the user owns
+    /// it.
+    pub free: bool,
 }
 
-/// Whether the entry speaks of the bit to the requester.
+/// Whether the entry allows or denies the requester the bit.
 fn speaks(ace: &Ace, owners: Owners, requester: &Requester, bit: Mask) -> bool
     ensures { (place : ℕ) → mask_bits bit ≡ 2 ^ place
         → result ≡ speaks (matches owners.owner owners.group requester.now) place ace.now }
@@ -37,7 +39,7 @@ fn speaks(ace: &Ace, owners: Owners, requester: &Requester, bit: Mask) -> bool
     ace.concerns(owners.owner, owners.group, requester) && ace.mask().contains(bit)
 }
 
-/// What the first entry says that speaks of the bit to the requester, if there is one.
+/// Whether the first entry that has the bit for the requester allows it; `None` if no entry does.
 fn verdict(acl: &Acl4, owners: Owners, requester: &Requester, bit: Mask) -> Option<bool>
     ensures { (place : ℕ) → mask_bits bit ≡ 2 ^ place
         → result ≡ verdict (matches owners.owner owners.group requester.now) place acl.now }
@@ -50,7 +52,7 @@ fn verdict(acl: &Acl4, owners: Owners, requester: &Requester, bit: Mask) -> Opti
     None
 }
 
-/// What the file's list says of the bit, which a POSIX list doesn't know.
+/// Whether the file's list allows or denies the bit; `None` for a POSIX list.
 fn said_of(file: &FileAcl<'_>, requester: &Requester, bit: Mask) -> Option<bool>
     ensures { (place : ℕ) → mask_bits bit ≡ 2 ^ place
         → result ≡ said_of (view_acl file.now) requester.now place }
@@ -61,7 +63,7 @@ fn said_of(file: &FileAcl<'_>, requester: &Requester, bit: Mask) -> Option<bool>
     }
 }
 
-/// Whether the folder lets the requester add to it.
+/// Whether the folder's list lets the requester add files to it.
 fn adds(folder: &FileAcl<'_>, requester: &Requester) -> bool
     ensures { result ≡ adds (view_acl folder.now) requester.now }
 {
@@ -73,15 +75,15 @@ fn adds(folder: &FileAcl<'_>, requester: &Requester) -> bool
     }
 }
 
-/// Whether the file is the requester's own.
+/// Whether the requester owns the file.
 fn owns(file: &FileAcl<'_>, requester: &Requester) -> bool
     ensures { result ≡ owns (view_acl file.now) requester.now }
 {
     requester.uid() == file.owners.owner
 }
 
-/// How the requester stands to the file, which has the sticky bit or not.
-fn standing_of(sticky: bool, file: &FileAcl<'_>, requester: &Requester) -> Standing
+/// The standing of the requester; `sticky` is whether the file has the sticky bit.
+pub fn standing_of(sticky: bool, file: &FileAcl<'_>, requester: &Requester) -> Standing
     ensures { result ≡ standing_of sticky (view_acl file.now) requester.now }
 {
     let owns = owns(file, requester);
@@ -94,8 +96,7 @@ fn standing_of(sticky: bool, file: &FileAcl<'_>, requester: &Requester) -> Stand
     }
 }
 
-/// How each of the requesters, in their order, stands to the file. It fails only if memory runs
-/// out.
+/// The standing of each of the requesters, in their order. Fails only if memory runs out.
 pub fn standings_of_each(
     alloc: Global,
     requesters: &[Requester],
@@ -112,8 +113,8 @@ pub fn standings_of_each(
     Ok(standings)
 }
 
-/// Whether to delete a file is granted, by what its list says of `DELETE` and that of its folder of
-/// `DELETE_CHILD`, and by whether it is granted where neither says anything.
+/// Whether deleting a file is granted: by what its list says about `DELETE`, or its folder's about
+/// `DELETE_CHILD`; by `otherwise` if neither has the bit.
 pub fn deletes_by(file: Option<bool>, child: Option<bool>, otherwise: bool) -> bool
     ensures { result ≡ deletes_by file child otherwise }
 {
@@ -121,7 +122,7 @@ pub fn deletes_by(file: Option<bool>, child: Option<bool>, otherwise: bool) -> b
     granted || (file.is_none() && child.is_none() && otherwise)
 }
 
-/// Whether who stands so to a folder, and so to a file in it, may delete the file.
+/// Whether a user with these standings may delete the file in the folder.
 fn takes(folder: Standing, file: Standing) -> bool
     ensures { result ≡ takes folder file }
 {
@@ -132,8 +133,22 @@ fn takes(folder: Standing, file: Standing) -> bool
     )
 }
 
-/// The places of those who may delete a file, by how each of them stands to the folder in which it
-/// is, and to the file. It fails only if memory runs out.
+/// Whether the requester, who reaches the folder's content, may delete the file in it. `sticky` is
+/// whether the folder has the sticky bit.
+pub fn deletes(
+    sticky: bool,
+    folder: &FileAcl<'_>,
+    file: &FileAcl<'_>,
+    requester: &Requester,
+) -> bool
+    ensures { result ≡ deletes sticky (view_acl folder.now) (view_acl file.now) requester.now }
+{
+    let above = standing_of(sticky, folder, requester);
+    takes(above, standing_of(false, file, requester))
+}
+
+/// The places of the users who may delete a file, by the standing of each to its folder and to the
+/// file itself. Fails only if memory runs out.
 pub fn places_of_takers(
     alloc: Global,
     folder: &[Standing],

@@ -5,7 +5,7 @@ ghost use Rattle.acl_access.specs.Who.{may_line, written_line};
 use crate::letters::LetterSet;
 use std::alloc::AllocError;
 
-/// Appends the line that says which letters a user has.
+/// Appends the line with a user's letters: letters, name and path.
 pub fn push_letters_line<L: LetterSet>(
     path: &[u8],
     name: &[u8],
@@ -24,7 +24,7 @@ pub fn push_letters_line<L: LetterSet>(
     Ok(())
 }
 
-/// Appends the line that says that a user may.
+/// Appends the line of a user who may: name and path.
 pub fn push_may_line(path: &[u8], name: &[u8], out: &mut Vec<u8>) -> Result<(), AllocError>
     ensures { OnOk result (out.new.items ≡ out.old.items ++ may_line path.now name.now) }
 {

@@ -11,3 +11,4 @@ pub mod SpaceLemmas
 pub mod FieldLemmas
 pub mod MemberLemmas
 pub mod ShapeLemmas
+pub mod TextLemmas

@@ -15,7 +15,7 @@ use Rattle.acl_accounts.specs.declared.fault.AccountsFault.{AccountsFault}
 use Rattle.acl_accounts.specs.declared.fault.AccountsFault.TheVariants.{TooMany}
 use Rattle.acl_accounts.specs.declared.limits.TheConstants.{MAX_ACCOUNTS_TEXT}
 
--- a user, with the gid of the user's own group
+-- a user, with the gid of the user's primary group
 pub record KnownAccount : Type 0 where
   pub name : List ℕ
   pub uid : ℕ
@@ -25,20 +25,20 @@ pub record KnownAccountGroup : Type 0 where
   pub name : List ℕ
   pub gid : ℕ
 
--- what is known of a host; each user has a place, also among those who ask
+-- the users and groups of a host; each user has a place, also among the requesters
 pub record KnownAccounts : Type 0 where
   pub users : List KnownAccount
   pub groups : List KnownAccountGroup
   pub requesters : List Identity
 
--- each once, where it stands first
+-- each id once, at its first place
 abbrev pub with_once : List ℕ → ℕ → List ℕ
 with_once ids id = if list_any (λ other. other == id) ids then ids else ids ++ id ∷ []
 
 abbrev pub each_once : List ℕ → List ℕ
 each_once ids = fold with_once [] ids
 
--- that a name is a member of the group with this gid
+-- one member of one group
 pub record Membership : Type 0 where
   pub name : List ℕ
   pub gid : ℕ
@@ -58,8 +58,8 @@ abbrev pub gids_with : List ℕ → List Membership → List ℕ
 gids_with name memberships =
     map (λ member. member.gid) (filter (λ member. bytes_eq member.name name) memberships)
 
--- a user as one who asks: in the user's own group, then in the order of the file in each of which
--- the user is a member, in each once
+-- a user as a requester: in the primary group, then in the order of the file in each that lists the
+-- user as a member, in each once
 abbrev pub requester_with : List Membership → KnownAccount → Identity
 requester_with memberships user = record {
   uid = user.uid;
@@ -75,7 +75,7 @@ account_of user = record { name = user.name; uid = user.uid; gid = user.gid }
 abbrev pub group_of : GroupRow → KnownAccountGroup
 group_of group = record { name = group.name; gid = group.gid }
 
--- the user and the group of a name
+-- the user and the group with a name
 abbrev pub account_named : KnownAccounts → List ℕ → Option KnownAccount
 account_named accounts name = find (λ user. bytes_eq user.name name) accounts.users
 
@@ -92,12 +92,12 @@ uid_of accounts name = option_map (λ user. user.uid) (account_named accounts na
 abbrev pub gid_of : KnownAccounts → List ℕ → Option ℕ
 gid_of accounts name = option_map (λ group. group.gid) (group_named accounts name)
 
--- how getfacl writes them, and who is meant
+-- how getfacl writes them, and which ones it means
 abbrev pub names_of : KnownAccounts → Names
 names_of accounts =
     record { written = written_account; uid = uid_of accounts; gid = gid_of accounts }
 
--- the names of ids: of those who share one, the first in the order of names
+-- the names of ids: of those with the same id, the first by name
 abbrev pub user_name : KnownAccounts → ℕ → Option (List ℕ)
 user_name accounts uid =
     option_map (λ user. user.name) (find (λ user. user.uid == uid) accounts.users)
@@ -106,13 +106,12 @@ abbrev pub group_name : KnownAccounts → ℕ → Option (List ℕ)
 group_name accounts gid =
     option_map (λ group. group.name) (find (λ group. group.gid == gid) accounts.groups)
 
--- the place of the user who is written: by a name, or by an id, which is the first one's who has it
+-- the place of the user with the written name, or of the first user with the written id
 abbrev pub place_of_written : KnownAccounts → Written → Option ℕ
 place_of_written accounts (Number uid) = position (λ user. user.uid == uid) accounts.users
 place_of_written accounts (Name name) = position (λ user. bytes_eq user.name name) accounts.users
 
--- the users and the groups stand in the order of their names, each name once, and those who ask are
--- the users
+-- the users and the groups ascend by their names, each name once, and the requesters are the users
 pub record AreInOrder (accounts : KnownAccounts) : Type 0 where
   pub users : IsAscending (slice_cmp nat_cmp) (λ user. user.name) accounts.users
   pub groups : IsAscending (slice_cmp nat_cmp) (λ group. group.name) accounts.groups
@@ -126,8 +125,8 @@ pub record AreIndexed (accounts : KnownAccounts) (user_places group_places : ℕ
     pub users : (uid : ℕ) → user_places uid ≡ position (λ user. user.uid == uid) accounts.users
     pub groups : (gid : ℕ) → group_places gid ≡ position (λ group. group.gid == gid) accounts.groups
 
--- the accounts of rows: in order, each name is that of its first row, and each user asks with the
--- groups of all rows
+-- the accounts of rows: in order, each name is that of its first row, and each user is a requester
+-- with the groups of all rows
 pub record AreOf (rows : Rows) (accounts : KnownAccounts) : Type 0 where
   pub ordered : AreInOrder accounts
   pub users : (name : List ℕ) → account_named accounts name

@@ -2,6 +2,7 @@ pub mod Names
 pub mod Space
 pub mod Rows
 pub mod Shapes
+pub mod Text
 pub mod Accounts
 pub mod Views
 pub mod Firsts

@@ -23,7 +23,7 @@ abbrev pub splits : ℕ → Bool
 splits byte = (byte == space) || (byte == tab) || (byte == newline) || (byte == carriage_return)
     || (byte == colon) || (byte == comma)
 
--- the bytes that are printed by their octal digits: those, and `\`
+-- the bytes that are printed as octal digits: those, and `\`
 abbrev pub is_quoted : ℕ → Bool
 is_quoted byte = splits byte || (byte == backslash)
 

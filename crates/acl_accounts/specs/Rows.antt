@@ -15,7 +15,7 @@ use Rattle.acl_accounts.specs.declared.fault.AccountsFault.{AccountsFault}
 use Rattle.acl_accounts.specs.declared.fault.AccountsFault.TheVariants.{BadAccount, TooMany}
 use Rattle.acl_accounts.specs.declared.limits.TheConstants.{MAX_ACCOUNT_USERS, MAX_ACCOUNT_GROUPS}
 
--- a line of passwd: a user, and the user's own group
+-- a line of passwd: a user, and the user's primary group
 pub record UserRow : Type 0 where
   pub name : List ℕ
   pub uid : ℕ
@@ -37,7 +37,7 @@ pub data Row : Type 0 where
 abbrev pub plus : ℕ
 plus = 43
 
--- a decimal behind white space
+-- a decimal after white space
 abbrev pub number_of : List ℕ → Option ℕ
 number_of field = decimal_value (skip_space field)
 
@@ -69,11 +69,11 @@ row_of_fields line (name ∷ _ ∷ gid ∷ members ∷ []) =
     group_row line name (number_of gid) (members_of members)
 row_of_fields line _ = None
 
--- `#` before a comment, `+` or `-` before what another source has
+-- `#` before a comment, `+` or `-` before an entry of another source
 abbrev pub is_mark : ℕ → Bool
 is_mark byte = (byte == hash) || (byte == plus) || (byte == hyphen)
 
--- digits, signs and white space: the system reads no number of anything else
+-- digits, signs and white space: the system reads no number from anything else
 abbrev pub is_numeric : List ℕ → Bool
 is_numeric field = list_all (λ byte. is_ascii_digit byte || (byte == plus) || (byte == hyphen)
     || is_space byte) field
@@ -82,30 +82,30 @@ is_numeric field = list_all (λ byte. is_ascii_digit byte || (byte == plus) || (
 abbrev pub names_nobody : List ℕ → Bool
 names_nobody field = list_all (λ byte. is_space byte || (byte == comma)) field
 
--- what stands behind a number names members, and is not the end of a user's line
+-- the text after a number names members, and isn't the end of a user's line
 abbrev pub name_members : List (List ℕ) → Bool
 name_members [] = false
 name_members (members ∷ []) = not (names_nobody members)
 name_members (gid ∷ _ ∷ _ ∷ _ ∷ []) = not (is_numeric gid)
 name_members _ = true
 
--- a line that the system reads in spite of its mark, when somebody logs in: as a group with members
+-- a line that the system reads despite its mark, at login: as a group with members
 unfoldable pub is_read_at_login : List (List ℕ) → Bool
 is_read_at_login (_ ∷ _ ∷ number ∷ fields) = is_numeric number && name_members fields
 is_read_at_login _ = false
 
--- a line with a mark is passed over, unless it is read all the same
+-- a line with a mark is skipped, unless it is read all the same
 abbrev pub passed_over : List (List ℕ) → Option Row
 passed_over fields = if is_read_at_login fields then None else Some IsPassed
 
--- what a line says that has no white space before it; an empty one is passed over
+-- what a line without white space in front holds; an empty one is skipped
 abbrev pub row_behind_space : ℕ → List ℕ → Option Row
 row_behind_space number [] = Some IsPassed
 row_behind_space number (byte ∷ bytes) =
     if is_mark byte then passed_over (parts colon (byte ∷ bytes))
     else row_of_fields number (parts colon (byte ∷ bytes))
 
--- what the line of this number says, if it is none of those that are bad: C ends it at a zero byte
+-- what the line of this number holds, if it isn't malformed: C ends it at a zero byte
 abbrev pub row_of : ℕ → List ℕ → Option Row
 row_of number line = if list_any (λ byte. byte == 0) line then None
     else row_behind_space number (skip_space line)
@@ -118,7 +118,7 @@ pub record Rows : Type 0 where
 abbrev pub no_rows : Rows
 no_rows = record { users = []; groups = [] }
 
--- one row more, if it is not one too many
+-- another row, if it isn't one too many
 abbrev pub with_row : Rows → Row → Result Rows AccountsFault
 with_row rows (IsUser row) =
     if nat_lt (length rows.users) MAX_ACCOUNT_USERS
@@ -134,7 +134,7 @@ row_at number (Some row) = Ok row
 row_at number None = Err (BadAccount number)
 
 -- the rows, and those of these lines, the first of which has this number, up to the first line that
--- is bad or one too many
+-- is malformed or one too many
 abbrev pub rows_from : ℕ → Rows → List (List ℕ) → Result Rows AccountsFault
 rows_from number rows [] = Ok rows
 rows_from number rows (line ∷ lines) = do
@@ -151,7 +151,7 @@ abbrev pub number_alone : List (List ℕ) → Option (List ℕ)
 number_alone (name ∷ []) = if is_numeric name then Some name else None
 number_alone _ = None
 
--- what is left of a user's line that was cut behind its gid: no user has the number for a name
+-- the rest of a user's line that was cut after its gid: no user has the number for a name
 abbrev pub is_cut : (List ℕ → Bool) → GroupRow → Bool
 is_cut is_user group =
     option_map_or (λ name. not (is_user name)) (number_alone group.members) false
@@ -164,7 +164,7 @@ abbrev pub unless_cut : Rows → Option GroupRow → Result Rows AccountsFault
 unless_cut rows None = Ok rows
 unless_cut rows (Some group) = Err (BadAccount group.line)
 
--- the rows of a text; a line that was cut is looked for once all lines are rows
+-- the rows of a text; a cut line is searched for once all lines are rows
 abbrev pub rows_of : List ℕ → Result Rows AccountsFault
 rows_of text = do
   rows ← rows_of_lines text

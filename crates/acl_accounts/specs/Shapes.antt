@@ -1,4 +1,4 @@
--- Which line says what, as a relation: white space, fields between colons, decimals and members.
+-- What each line means, as a relation: white space, fields between colons, decimals and members.
 use Rattle.std.specs.Prelude.{◌≡◌, ◌<◌, ◌⊎◌, ℕ, ◌==◌, ◌||◌, true, false, List, [], ◌∷◌}
 use Rattle.std.specs.Prelude.{◌++◌, length, slice_index, All, Some}
 use Rattle.std.specs.List.{join_with_byte}
@@ -19,7 +19,7 @@ pub record StandsBehindSpace (text rest : List ℕ) : Type 0 where
 abbrev pub Lacks : ℕ → List ℕ → Type 0
 Lacks byte text = All (λ other. (other == byte) ≡ false) text
 
--- what stands between the colons
+-- the texts between the colons
 pub record AreFields (line : List ℕ) (fields : List (List ℕ)) : Type 0 where
   pub joined : line ≡ join_with_byte colon fields
   pub apart : All (Lacks colon) fields
@@ -29,7 +29,7 @@ abbrev pub WritesNumber : List ℕ → ℕ → Type 0
 WritesNumber field id =
     (digits : List ℕ) × StandsBehindSpace field digits × (decimal_value digits ≡ Some id)
 
--- what stands between members: white space and commas
+-- what separates members: white space and commas
 abbrev pub IsGap : List ℕ → Type 0
 IsGap text = All (λ byte. (is_space byte || (byte == comma)) ≡ true) text
 
@@ -42,19 +42,19 @@ pub record IsMember (name : List ℕ) : Type 0 where
 abbrev pub EndsMember : List ℕ → Type 0
 EndsMember rest = (rest ≡ []) ⊎ (slice_index rest 0 ≡ comma)
 
--- each member stands behind a gap, and goes up to a comma or to the end
+-- each member comes after a gap, and goes up to a comma or to the end
 abbrev pub NamesMembers : List ℕ → List (List ℕ) → Type 0
 NamesMembers field [] = IsGap field
 NamesMembers field (name ∷ names) = (gap : List ℕ) × (rest : List ℕ)
     × (field ≡ gap ++ (name ++ rest)) × IsGap gap × IsMember name × EndsMember rest
     × NamesMembers rest names
 
--- a name of 1 to 255 bytes, that doesn't begin as a comment or what another source has
+-- a name of 1 to 255 bytes that doesn't begin like a comment or an entry of another source
 pub record IsNamed (name : List ℕ) : Type 0 where
   pub named : is_account_name name ≡ true
   pub unmarked : is_mark (slice_index name 0) ≡ false
 
--- a line without a zero byte, of these fields behind white space
+-- a line without a zero byte, of these fields after white space
 pub record SaysFields (line : List ℕ) (fields : List (List ℕ)) : Type 0 where
   pub rest : List ℕ
   pub whole : Lacks 0 line
@@ -75,7 +75,7 @@ pub record IsUserLine (line : List ℕ) (row : UserRow) : Type 0 where
   pub uid_is : WritesNumber uid row.uid
   pub gid_is : WritesNumber gid row.gid
 
--- four are a group, which knows its line
+-- four are a group, which has the number of its line
 pub record IsGroupLine (number : ℕ) (line : List ℕ) (row : GroupRow) : Type 0 where
   pub password : List ℕ
   pub gid : List ℕ
@@ -86,14 +86,14 @@ pub record IsGroupLine (number : ℕ) (line : List ℕ) (row : GroupRow) : Type 
   pub members_are : NamesMembers members row.members
   pub line_is : row.line ≡ number
 
--- a mark, and no fields that are read in spite of it
+-- a mark, and no fields that are read despite it
 pub record IsIdle (rest : List ℕ) : Type 0 where
   pub marked : is_mark (slice_index rest 0) ≡ true
   pub fields : List (List ℕ)
   pub fields_are : AreFields rest fields
   pub unread : is_read_at_login fields ≡ false
 
--- behind white space there is nothing, or a comment, or what another source has
+-- after white space there is nothing, or a comment, or an entry of another source
 pub record IsPassedLine (line : List ℕ) : Type 0 where
   pub rest : List ℕ
   pub whole : Lacks 0 line

@@ -5,7 +5,7 @@ ghost use Rattle.std.specs.Prelude.{◌≡◌};
 use acl_names::{Gid, Uid};
 use std::marker::Model;
 
-/// A user: a name, a uid, and the gid of the user's own group.
+/// A user: a name, a uid, and the gid of the user's primary group.
 #[derive(Debug, Drop)]
 pub struct Account {
     pub(crate) name: Vec<u8>,
@@ -33,14 +33,14 @@ impl Account {
         self.name.as_slice()
     }
 
-    /// The user's number.
+    /// The user's id.
     pub fn uid(&self) -> Uid
         ensures { result ≡ self.now.uid }
     {
         self.uid
     }
 
-    /// The number of the user's own group.
+    /// The gid of the user's primary group.
     pub fn gid(&self) -> Gid
         ensures { result ≡ self.now.gid }
     {

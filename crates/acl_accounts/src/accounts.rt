@@ -33,12 +33,12 @@ use std::alloc::{AllocError, Global};
 use std::collections::HashMap;
 use std::marker::Model;
 
-/// The users and groups of a host, in the order of their names.
+/// The users and groups of a host, sorted by name.
 #[derive(Debug, Drop)]
 pub struct Accounts {
     users: Vec<Account>,
     groups: Vec<AccountGroup>,
-    /// Each user as one who asks, in the order of the users.
+    /// Each user as a requester, in the order of the users.
     requesters: Vec<Requester>,
     /// Guesses of the users' places by their names.
     user_guesses: Vec<u32>,
@@ -73,10 +73,10 @@ impl Model for Accounts {
 }
 
 impl Accounts {
-    /// The accounts that a text lists: what `getent passwd` and `getent group` print, in any order,
-    /// or what their files have. The first line that is bad, or one too many, decides; if there is
-    /// none, the first that is what is left of a user's line. `Memory` comes only if memory runs
-    /// out.
+    /// Reads accounts: what `getent passwd` and `getent group` print, in any order, or what
+    /// /etc/passwd and /etc/group have. The first line that is malformed or one too many decides
+    /// the fault; without one, the first group line that is the rest of a user's line. `Memory`
+    /// means that memory ran out.
     pub fn read(alloc: Global, text: &[u8]) -> Result<Accounts, AccountsFault>
         ensures read { IfOk result (λ accounts. IfOk (rows_within text.now)
             (λ rows. AreOf rows accounts)) }
@@ -88,7 +88,7 @@ impl Accounts {
             return Err(AccountsFault::TooMany);
         }
         let rows = read_rows(alloc, text)?;
-        // In the order of the file, in which `from_rows` doesn't leave them.
+        // In the order of the file, which `from_rows` changes.
         let groups = Vec::from_slice(alloc, &rows.groups)?;
         let accounts = Accounts::from_rows(alloc, rows)?;
         match accounts.first_cut(&groups) {
@@ -97,7 +97,7 @@ impl Accounts {
         }
     }
 
-    /// The line of the first of these groups that is what is left of a user's line.
+    /// The line of the first of these groups that is the rest of a user's line.
     fn first_cut(&self, groups: &[GroupRow<'_>]) -> Option<usize>
         ensures { result ≡ option_map (λ group. group.line)
             (find (λ group. is_cut (is_user_in self.now) (view_group group)) groups.now) }
@@ -145,7 +145,7 @@ impl Accounts {
         })
     }
 
-    /// The users, in the order of their names' bytes.
+    /// The users, sorted by the bytes of their names.
     pub fn users(&self) -> &[Account]
         ensures list { result.now ≡ self.now.users }
         ensures order { IsAscending (slice_cmp nat_cmp) (λ user. user.name) self.now.users }
@@ -153,7 +153,7 @@ impl Accounts {
         self.users.as_slice()
     }
 
-    /// The groups, in the order of their names' bytes.
+    /// The groups, sorted by the bytes of their names.
     pub fn groups(&self) -> &[AccountGroup]
         ensures list { result.now ≡ self.now.groups }
         ensures order { IsAscending (slice_cmp nat_cmp) (λ group. group.name) self.now.groups }
@@ -161,9 +161,9 @@ impl Accounts {
         self.groups.as_slice()
     }
 
-    /// Each of the users as one who asks, in the order of the users: with the user's own group, and
-    /// then in the order of the file the others of which the user is a member. Two users of one uid
-    /// ask each for themselves.
+    /// Each user as a requester, in the order of `users`: in the primary group, and then, in the
+    /// order of the file, in the others that list the user as a member. Two users with the same uid
+    /// are requesters of their own.
     pub fn requesters(&self) -> &[Requester]
         ensures list { result.now ≡ self.now.requesters }
         ensures uids { map (λ requester. requester.uid) result.now
@@ -172,8 +172,8 @@ impl Accounts {
         self.requesters.as_slice()
     }
 
-    /// The place, among `users` and `requesters`, of the user who is written: by a name, or by a
-    /// uid; of those who share a uid, the first.
+    /// The place, in `users` and `requesters`, of the user with the written name or uid; of users
+    /// with the same uid, the first.
     pub fn user_place(&self, written: WrittenAccount<'_>) -> Option<usize>
         ensures { result ≡ place_of_written self.now (view_written written.entry) }
     {
@@ -216,8 +216,8 @@ impl Accounts {
         }
     }
 
-    /// Resolves a written uid: a number as it is, and a name by the users. `None` if no user has
-    /// the name, or no uid is so large.
+    /// Resolves a written uid: a number is the uid itself, and a name that of the user who has it.
+    /// `None` if no user has the name, or the number is too large for an id.
     pub fn uid(&self, written: WrittenAccount<'_>) -> Option<Uid>
         ensures { result ≡ id_of_written (uid_of self.now) (view_written written.entry) }
     {
@@ -227,8 +227,8 @@ impl Accounts {
         }
     }
 
-    /// Resolves a written gid: a number as it is, and a name by the groups. `None` if no group has
-    /// the name, or no gid is so large.
+    /// Resolves a written gid: a number is the gid itself, and a name that of the group that has
+    /// it. `None` if no group has the name, or the number is too large for an id.
     pub fn gid(&self, written: WrittenAccount<'_>) -> Option<Gid>
         ensures { result ≡ id_of_written (gid_of self.now) (view_written written.entry) }
     {
@@ -238,7 +238,7 @@ impl Accounts {
         }
     }
 
-    /// The name of the user with this uid; of those who share it, the first in the order of names.
+    /// The name of the user with this uid; of users with the same uid, the first by name.
     pub fn user_name(&self, uid: Uid) -> Option<&[u8]>
         ensures name { option_map (λ name. name.now) result ≡ user_name self.now uid }
         ensures again { IfSome result (λ name. uid_of self.now name.now ≡ Some uid) }
@@ -249,8 +249,7 @@ impl Accounts {
         }
     }
 
-    /// The name of the group with this gid; of those that share it, the first in the order of
-    /// names.
+    /// The name of the group with this gid; of groups with the same gid, the first by name.
     pub fn group_name(&self, gid: Gid) -> Option<&[u8]>
         ensures name { option_map (λ name. name.now) result ≡ group_name self.now gid }
         ensures again { IfSome result (λ name. gid_of self.now name.now ≡ Some gid) }
@@ -262,7 +261,7 @@ impl Accounts {
     }
 }
 
-/// By names as getfacl writes them.
+/// Resolves names as getfacl writes them.
 impl ResolveNames for Accounts {
     ghost use Rattle.acl_accounts.specs.Accounts.{names_of};
 

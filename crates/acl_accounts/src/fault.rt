@@ -1,15 +1,15 @@
-//! Why a text is no accounts.
+//! Why a text isn't accounts.
 
 ghost use Rattle.std.specs.Prelude.{◌≡◌};
 ghost use Rattle.acl_accounts.specs.declared.fault.AccountsFault.TheVariants.{Memory};
 
 use std::alloc::{AllocError, AllocFailed};
 
-/// Why a text is no accounts.
+/// Why a text isn't accounts.
 #[derive(Clone, Copy, Debug, PartialEq, Eq)]
 pub enum AccountsFault {
-    /// The line of this number, counted from 1, is neither a user nor a group, nor passed over; or
-    /// it is what is left of a user's line.
+    /// The line of this number, from 1, is neither a user nor a group nor a line to skip; or it is
+    /// the rest of a user's line.
     BadAccount(usize),
     /// There are more users or groups than `MAX_ACCOUNT_USERS` or `MAX_ACCOUNT_GROUPS`, or more
     /// bytes than `MAX_ACCOUNTS_TEXT`.

@@ -28,7 +28,7 @@ impl AccountGroup {
         self.name.as_slice()
     }
 
-    /// The group's number.
+    /// The group's id.
     pub fn gid(&self) -> Gid
         ensures { result ≡ self.now.gid }
     {

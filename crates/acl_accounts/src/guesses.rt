@@ -1,5 +1,5 @@
-//! Guesses where the member of a name stands, by a hash of the name. A guess that is wrong costs a
-//! search and no more, so nothing is proved of hashes.
+//! Guesses at which place the member with a name is, from a hash of the name. A wrong guess only
+//! costs a search, so nothing is proved about hashes.
 
 ghost use Rattle.std.specs.Prelude.{◌≡◌, Some, find, IfSome};
 ghost use Rattle.std.specs.Cmp.Lexicographic.{slice_cmp};
@@ -13,14 +13,14 @@ use crate::named::{Named, place_by_name};
 use crate::places::member_at;
 use std::alloc::{AllocError, Global};
 
-/// Places of the table for each member.
+/// Slots of the table for each member.
 const GUESSES_PER_MEMBER: usize = 8;
 
 /// An odd number near the golden ratio of 2^64, by which the bits of a hash are spread.
 const SPREAD: u64 = 0x9E37_79B9_7F4A_7C15;
 
-/// The place of some member for each hash of a name; of two members that share one, that of the
-/// later.
+/// The table: for the hash of a name, the place of the member with that name. If two members share
+/// a slot, the later one has it.
 pub(crate) fn guesses_of<T: Named>(alloc: Global, members: &[T]) -> Result<Vec<u32>, AllocError> {
     let count = members.len().saturating_mul(GUESSES_PER_MEMBER);
     let mut guesses = Vec::from_elem(alloc, 0, count)?;
@@ -33,7 +33,7 @@ pub(crate) fn guesses_of<T: Named>(alloc: Global, members: &[T]) -> Result<Vec<u
     Ok(guesses)
 }
 
-/// The member of this name, of members in the order of their names.
+/// The member with this name. `members` must be sorted by name.
 pub(crate) fn find_by_hash<'a, T: Named>(
     members: &'a [T],
     guesses: &[u32],
@@ -45,7 +45,7 @@ pub(crate) fn find_by_hash<'a, T: Named>(
     member_at(members, place_by_hash(members, guesses, name))
 }
 
-/// Where the member of this name stands, of members in the order of their names.
+/// The place of the member with this name. `members` must be sorted by name.
 pub(crate) fn place_by_hash<T: Named>(members: &[T], guesses: &[u32], name: &[u8]) -> Option<usize>
     requires { IsAscending (slice_cmp nat_cmp) T.name_of members.now }
     ensures { result ≡ position (λ other. bytes_eq (T.name_of other) name.now) members.now }
@@ -56,8 +56,8 @@ pub(crate) fn place_by_hash<T: Named>(members: &[T], guesses: &[u32], name: &[u8
     place_by_name(members, name)
 }
 
-/// The place of the member of this name, if the guess for its hash is right. A fast path: `None`
-/// means that it has to be searched for.
+/// The place of the member with this name, if the guess for its hash is right. A fast path: on
+/// `None` the caller has to search.
 fn guessed_place<T: Named>(members: &[T], guesses: &[u32], name: &[u8]) -> Option<usize>
     requires { IsAscending (slice_cmp nat_cmp) T.name_of members.now }
     ensures { IfSome result (λ place. position (λ other. bytes_eq (T.name_of other) name.now)
@@ -85,7 +85,7 @@ fn hash_of(name: &[u8]) -> u64 {
     hash
 }
 
-/// Which of so many guesses is that of a hash.
+/// The slot of a hash, out of `count` slots.
 #[inline(always)]
 fn guess_at(hash: u64, count: usize) -> usize {
     let spread = hash.wrapping_mul(SPREAD) >> 32;

@@ -23,7 +23,7 @@ pub use account::Account;
 pub use accounts::Accounts;
 pub use fault::AccountsFault;
 pub use group::AccountGroup;
-pub use laws::lines_have_shapes;
+pub use laws::{lines_have_shapes, rows_are_read_again};
 pub use limits::{
     MAX_ACCOUNT_GROUPS, MAX_ACCOUNT_NAME, MAX_ACCOUNT_USERS, MAX_ACCOUNTS_TEXT, limits_in_numbers,
 };

@@ -1,20 +1,20 @@
-//! How much an accounts file may hold.
+//! Limits of an accounts file.
 ghost use Rattle.std.specs.Prelude.{◌≡◌};
 ghost use Rattle.acl_accounts.specs.declared.limits.TheConstants.{MAX_ACCOUNT_USERS};
 ghost use Rattle.acl_accounts.specs.declared.limits.TheConstants.{MAX_ACCOUNT_GROUPS};
 ghost use Rattle.acl_accounts.specs.declared.limits.TheConstants.{MAX_ACCOUNT_NAME};
 ghost use Rattle.acl_accounts.specs.declared.limits.TheConstants.{MAX_ACCOUNTS_TEXT};
 
-/// The most lines of users.
+/// How many lines of users there may be.
 pub const MAX_ACCOUNT_USERS: usize = 65_536;
 
-/// The most lines of groups.
+/// How many lines of groups there may be.
 pub const MAX_ACCOUNT_GROUPS: usize = 65_536;
 
-/// The most bytes of a name.
+/// How many bytes a name may have.
 pub const MAX_ACCOUNT_NAME: usize = 255;
 
-/// The most bytes of an accounts file.
+/// How many bytes an accounts file may have.
 pub const MAX_ACCOUNTS_TEXT: usize = 16_777_216;
 
 /// The limits as numbers. There is nothing to run here: a proof cites the contract.

@@ -33,7 +33,7 @@ impl<'a> Members<'a> {
         }
     }
 
-    /// Takes the next name. `None` if there is none left, now and in each later call.
+    /// Takes the next name; `None` after the last one, in each later call too.
     pub(crate) fn next(&mut self) -> Option<&'a [u8]>
         ensures name { MatchOption result (self.old ≡ []) (λ name. self.old ≡ name.now ∷ self.new) }
         ensures end { IfNone result (self.new ≡ []) }

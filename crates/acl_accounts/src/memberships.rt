@@ -1,4 +1,4 @@
-//! Who is in which group.
+//! Which groups list which members.
 
 ghost use Rattle.std.specs.Prelude.{◌≡◌, ℕ, List, ◌∷◌, ◌++◌, bytes_eq, filter, map};
 ghost use Rattle.std.specs.Prelude.{OnOk, IfOk};
@@ -16,7 +16,7 @@ use acl_names::Gid;
 use std::alloc::{AllocError, Global};
 use std::collections::HashSet;
 
-/// That a name is a member of a group.
+/// One member of one group.
 #[derive(Clone, Copy, Debug)]
 pub(crate) struct Membership<'t> {
     pub name: &'t [u8],
@@ -37,8 +37,7 @@ impl<'t> Membership<'t> {
     }
 }
 
-/// Who is in which group, in the order of the members' names, and for each of them in the order of
-/// the file.
+/// All memberships, sorted by the member's name, and for each name in the order of the file.
 pub(crate) fn memberships_of<'t>(
     alloc: Global,
     groups: &[GroupRow<'t>],
@@ -54,7 +53,7 @@ pub(crate) fn memberships_of<'t>(
     Ok(memberships)
 }
 
-/// Who is in which group, in the order of the file.
+/// All memberships, in the order of the file.
 fn listed_memberships<'t>(
     alloc: Global,
     groups: &[GroupRow<'t>],
@@ -89,7 +88,7 @@ fn push_members<'t>(
     Ok(())
 }
 
-/// The memberships of a name, of memberships in the order of names.
+/// The memberships of a name. `memberships` must be sorted by name.
 pub(crate) fn memberships_with<'a, 't>(
     memberships: &'a [Membership<'t>],
     name: &[u8],
@@ -103,7 +102,7 @@ pub(crate) fn memberships_with<'a, 't>(
     &behind[..count]
 }
 
-/// A gid, and those of these memberships, each once.
+/// The gid, and then those of the memberships, each once.
 pub(crate) fn gids_of(
     alloc: Global,
     gid: Gid,
@@ -121,7 +120,7 @@ pub(crate) fn gids_of(
     Ok(gids)
 }
 
-/// Appends an id, if it isn't there, by a set of the ids that are.
+/// Appends an id unless it is in `seen`, the set of those that were appended.
 fn push_once(id: Gid, ids: &mut Vec<Gid>, seen: &mut HashSet<u32>) -> Result<(), AllocError>
     requires { HaveBeenSeen ids.old.items seen.old }
     ensures pushed { OnOk result (ids.new.items ≡ with_once ids.old.items id) }

@@ -1,4 +1,4 @@
-//! Lists of what has a name: sorted, without repeats, and where a name stands in them.
+//! Lists of members with a name: sorted, without repeats, and searched.
 
 ghost use Rattle.std.specs.Prelude.{◌≡◌, ◌-◌, ℕ, List, filter, length, false, OnOk, IfOk};
 ghost use Rattle.std.specs.Cmp.Lexicographic.{slice_cmp};
@@ -16,7 +16,7 @@ use crate::memberships::Membership;
 use crate::rows::{GroupRow, UserRow};
 use std::alloc::{AllocError, Global};
 
-/// What has a name.
+/// A member with a name.
 pub(crate) trait Named {
     ghost name_of: { Self → List ℕ };
 
@@ -64,7 +64,7 @@ impl<'t> Named for Membership<'t> {
     }
 }
 
-/// The place of the member of this name, of members in the order of their names.
+/// The place of the member with this name. `members` must be sorted by name.
 pub(crate) fn place_by_name<T: Named>(members: &[T], name: &[u8]) -> Option<usize>
     requires { IsAscending (slice_cmp nat_cmp) T.name_of members.now }
     ensures { result ≡ position (λ member. bytes_eq (T.name_of member) name.now) members.now }
@@ -75,7 +75,7 @@ pub(crate) fn place_by_name<T: Named>(members: &[T], name: &[u8]) -> Option<usiz
     }
 }
 
-/// Puts the members in the order of their names; those of one name keep their order.
+/// Sorts the members by name; those with the same name keep their order.
 pub(crate) fn sort_by_name<T: Named>(members: &mut Vec<T>) -> Result<(), AllocError>
     ensures sorted { OnOk result (IsSortedByKey T.name_of (slice_cmp nat_cmp) members.new.items) }
     ensures kept { (name : List ℕ) → filter (λ member. bytes_eq (T.name_of member) name)
@@ -84,7 +84,7 @@ pub(crate) fn sort_by_name<T: Named>(members: &mut Vec<T>) -> Result<(), AllocEr
     members.sort_by(|one, other| one.key().cmp(other.key()))
 }
 
-/// The first member of each name, of members in the order of their names.
+/// The first member of each name. `members` must be sorted by name.
 pub(crate) fn first_of_each<T: Named + Copy + Drop>(
     alloc: Global,
     members: &[T],

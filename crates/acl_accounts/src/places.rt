@@ -1,4 +1,4 @@
-//! Where the member of an id stands, and the member of a place.
+//! The place of the member with an id, and the member at a place.
 
 ghost use Rattle.std.specs.Prelude.{◌≡◌, ◌==◌, ℕ, IfOk, find, nat_eq, slice_get};
 ghost use Rattle.std.specs.HashMap.{get};
@@ -10,7 +10,7 @@ use crate::group::AccountGroup;
 use std::alloc::{AllocError, Global};
 use std::collections::HashMap;
 
-/// What has an id.
+/// A member with an id.
 pub(crate) trait Numbered {
     ghost id_of: { Self → ℕ };
 
@@ -44,7 +44,7 @@ pub(crate) fn places_by_id<T: Numbered>(
 {
     let mut places = HashMap::with_capacity(alloc, members.len())?;
     let mut place = members.len();
-    // From the last to the first, which stays.
+    // From the last to the first, so that the first stays.
     while place > 0 {
         place -= 1;
         places.insert(members[place].id(), place)?;
@@ -52,7 +52,7 @@ pub(crate) fn places_by_id<T: Numbered>(
     Ok(places)
 }
 
-/// The first member of this id, by the places of the first of each id.
+/// The first member with this id, by the table of `places_by_id`.
 pub(crate) fn find_by_id<'a, T: Numbered>(
     members: &'a [T],
     places: &HashMap<u32, usize>,
@@ -64,7 +64,7 @@ pub(crate) fn find_by_id<'a, T: Numbered>(
     member_at(members, places.get(&id).copied())
 }
 
-/// The member at the place, if there are both.
+/// The member at the place; `None` if there is no place, or no member at it.
 pub(crate) fn member_at<T>(members: &[T], place: Option<usize>) -> Option<&T>
     ensures { option_copied result ≡ option_and_then (slice_get members.now) place }
 {

@@ -19,12 +19,13 @@ use acl_names::octal;
 use arrayvec::ArrayVec;
 use std::alloc::AllocError;
 
-/// Appends a name, with a blank, a tab, a newline, a carriage return, `:`, `,` and `\` as `\` and
-/// three octal digits. If memory runs out, what `out` held still stands in front.
+/// Appends a name as getfacl writes it, with a blank, tab, newline, carriage return, `:`, `,` and
+/// `\` as `\` and three octal digits. Fails only if memory runs out; what `out` held stays in
+/// front.
 #[tactic(auto, using(crate::proofs::QuotingLemmas::printed_laws))]
 pub fn push_name(name: &[u8], out: &mut Vec<u8>) -> Result<(), AllocError>
     ensures printed { Pushes (quoted name.now) result out.old out.new }
-    // What is printed is read as the name; a name that is all digits, as the id.
+    // The text is read as the name; a name that is all digits, as the id.
     ensures read_again { written_account (quoted name.now)
         ≡ (if list_all is_ascii_digit name.now then option_map Number (decimal_value name.now)
         else named name.now) }
@@ -60,8 +61,8 @@ fn is_quoted(byte: u8) -> bool
         || byte == b'\\'
 }
 
-/// Puts what a text writes, which is undone of its pairs of backslashes and its octal digits, in
-/// place of what stood in `room`. False if it has more bytes than a name.
+/// Sets `room` to the bytes that a text writes: two backslashes are one, and `\` and three octal
+/// digits are a byte. False if there are more than a name may have.
 pub(crate) fn unquote(text: &[u8], room: &mut ArrayVec<u8, MAX_ACCOUNT_NAME>) -> bool
     ensures { MatchBool result (room.new.items ≡ unquoted text.now)
         (MAX_ACCOUNT_NAME < length (unquoted text.now)) }
@@ -77,8 +78,8 @@ pub(crate) fn unquote(text: &[u8], room: &mut ArrayVec<u8, MAX_ACCOUNT_NAME>) ->
     true
 }
 
-/// The first byte that a text writes as getfacl does, and what stands behind what writes it; none
-/// of an empty text.
+/// The first byte that a text writes as getfacl does, and the rest of the text; `None` for an empty
+/// text.
 pub fn first_unquoted(text: &[u8]) -> Option<(u8, &[u8])>
     ensures says { MatchOption result (text.now ≡ [])
         (λ found. unquoted text.now ≡ found.0 ∷ unquoted found.1.now) }

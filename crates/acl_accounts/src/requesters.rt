@@ -1,4 +1,4 @@
-//! The users of accounts as ones who ask.
+//! The users of accounts as requesters.
 
 ghost use Rattle.std.specs.Prelude.{◌≡◌, IfOk, map};
 ghost use Rattle.std.specs.Cmp.Lexicographic.{slice_cmp};
@@ -12,7 +12,7 @@ use crate::memberships::{Membership, gids_of, memberships_with};
 use acl_names::Requester;
 use std::alloc::{AllocError, Global};
 
-/// Each of the users as one who asks, in their order.
+/// Each user as a requester, in the order of the users.
 pub(crate) fn requesters_of(
     alloc: Global,
     users: &[Account],
@@ -29,7 +29,7 @@ pub(crate) fn requesters_of(
     Ok(requesters)
 }
 
-/// The user as one who asks: in the user's own group, and in those of the memberships.
+/// The user as a requester: in the primary group, and in those of the memberships.
 fn requester_of(
     alloc: Global,
     user: &Account,

@@ -17,7 +17,7 @@ use crate::written::is_account_name;
 use acl_names::{Gid, Parts, Uid, read_decimal};
 use std::alloc::Global;
 
-/// A line of passwd: a user, and the user's own group.
+/// A line of passwd: a user, and the user's primary group.
 #[derive(Clone, Copy, Debug)]
 pub(crate) struct UserRow<'t> {
     pub name: &'t [u8],
@@ -25,22 +25,22 @@ pub(crate) struct UserRow<'t> {
     pub gid: Gid,
 }
 
-/// A line of group: a group, and the names of its members between commas.
+/// A line of group: a group, and the names of its members, with commas between them.
 #[derive(Clone, Copy, Debug)]
 pub(crate) struct GroupRow<'t> {
     pub name: &'t [u8],
     pub gid: Gid,
     pub members: &'t [u8],
-    /// The number of the line.
+    /// The line's number.
     pub line: usize,
 }
 
-/// What a line says.
+/// What a line holds.
 #[derive(Clone, Copy, Debug)]
 pub(crate) enum Row<'t> {
     User(UserRow<'t>),
     Group(GroupRow<'t>),
-    /// The line is passed over.
+    /// Nothing: the line is skipped.
     Passed,
 }
 
@@ -51,7 +51,7 @@ pub(crate) struct Rows<'t> {
     pub groups: Vec<GroupRow<'t>>,
 }
 
-/// The rows of a text, up to the first line that is bad or one too many.
+/// The rows of a text, up to the first line that is malformed or one too many.
 pub(crate) fn read_rows(alloc: Global, text: &[u8]) -> Result<Rows<'_>, AccountsFault>
     requires { length text.now ≤ MAX_ACCOUNTS_TEXT }
     ensures read { IfOk result (λ rows. rows_of_lines text.now ≡ Ok (view_rows rows)) }
@@ -87,7 +87,7 @@ pub(crate) fn read_rows(alloc: Global, text: &[u8]) -> Result<Rows<'_>, Accounts
     Ok(Rows { users, groups })
 }
 
-/// What the line of this number says, if it is none of those that are bad.
+/// What the line of this number holds; `None` if it is malformed.
 fn read_row(number: usize, line: &[u8]) -> Option<Row<'_>>
     ensures { option_map view_row result ≡ row_of number line.now }
 {
@@ -98,7 +98,7 @@ fn read_row(number: usize, line: &[u8]) -> Option<Row<'_>>
     read_behind_space(number, skip_space(line))
 }
 
-/// The same of a line that has no white space before it, and no zero byte.
+/// The same for a line without a zero byte and without white space in front.
 fn read_behind_space(number: usize, line: &[u8]) -> Option<Row<'_>>
     ensures { option_map view_row result ≡ row_behind_space number line.now }
 {
@@ -121,8 +121,8 @@ fn is_mark(byte: u8) -> bool
     byte == b'#' || byte == b'+' || byte == b'-'
 }
 
-/// Whether the system reads a line in spite of its mark, when somebody logs in, as a group with
-/// members: glibc looks a user's groups up without regard to marks.
+/// Whether the system reads a line despite its mark at login, as a group with members: glibc
+/// ignores marks when it looks up a user's groups.
 #[tactic(auto, unfolding(crate::specs::Rows::is_read_at_login))]
 fn is_read_at_login(line: &[u8]) -> bool
     ensures { result ≡ is_read_at_login (parts colon line.now) }
@@ -149,7 +149,7 @@ fn is_read_at_login(line: &[u8]) -> bool
     }
 }
 
-/// Whether a field is digits, signs and white space alone.
+/// Whether a field has only digits, signs and white space.
 pub(crate) fn is_numeric(field: &[u8]) -> bool
     ensures { result ≡ is_numeric field.now }
 {
@@ -158,7 +158,7 @@ pub(crate) fn is_numeric(field: &[u8]) -> bool
     })
 }
 
-/// Whether a field is white space and commas alone.
+/// Whether a field has only white space and commas.
 fn names_nobody(field: &[u8]) -> bool
     ensures { result ≡ names_nobody field.now }
 {

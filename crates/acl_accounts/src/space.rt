@@ -3,7 +3,7 @@
 ghost use Rattle.std.specs.Prelude.{◌≡◌};
 ghost use Rattle.acl_accounts.specs.Space.{is_space, skip_space};
 
-/// Whether `isspace` of C says so.
+/// Whether C's `isspace` accepts the byte.
 pub(crate) fn is_space(byte: u8) -> bool
     ensures { result ≡ is_space byte }
 {

@@ -1,4 +1,4 @@
-//! Accounts as they are written: by an id, or by a name.
+//! Accounts as a text writes them: by an id, or by a name.
 
 ghost use Rattle.std.specs.Prelude.{◌≡◌, ◌==◌, ◌||◌, option_map};
 ghost use Rattle.std.specs.Bool.{OnFalse};
@@ -14,7 +14,7 @@ use crate::quoting::unquote;
 use acl_names::read_decimal;
 use arrayvec::ArrayVec;
 
-/// A user or a group as it is written, whether or not there is one.
+/// A user or a group as a text writes it, whether or not there is one.
 #[derive(Clone, Copy, Debug)]
 pub enum WrittenAccount<'a> {
     /// An id in decimal.
@@ -24,10 +24,10 @@ pub enum WrittenAccount<'a> {
 }
 
 impl<'a> WrittenAccount<'a> {
-    /// What a text writes: all digits an id, if it is one, and anything else a name, in which two
+    /// Reads an account: all digits are an id, and anything else is a name, in which two
     /// backslashes are one, and `\` and three octal digits are a byte. `None` if the id is out of
-    /// range, or the name has no byte, more than `MAX_ACCOUNT_NAME`, or a `:` or a newline. A name
-    /// that is written with a `\` stands in `room`, in place of what stood there.
+    /// range, or the name is empty, has more than `MAX_ACCOUNT_NAME` bytes, or a `:` or a newline.
+    /// A name that is written with a `\` is put into `room`, which it overwrites.
     pub fn read(
         text: &'a [u8],
         room: &'a mut ArrayVec<u8, MAX_ACCOUNT_NAME>,
@@ -59,7 +59,7 @@ fn are_digits(text: &[u8]) -> bool
 #[tactic(auto, using(crate::proofs::QuotingLemmas::plain_text))]
 fn has_backslash(text: &[u8]) -> bool
     ensures has { result ≡ list_any (λ byte. byte == backslash) text.now }
-    // Without one, a text writes itself.
+    // Without a `\`, a text is the name itself.
     ensures plain { OnFalse result (unquoted text.now ≡ text.now) }
 {
     text.contains(&b'\\')

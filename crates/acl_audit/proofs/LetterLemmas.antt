@@ -1,4 +1,4 @@
--- A letter is told exactly if the check of it is answered `granted`.
+-- A letter is reported exactly if the check of it is answered `granted`.
 use Rattle.std.proofs.Common.{◌≡◌, ◌∙◌, ℕ, List, Bool, true, false, Option, Some, Ok, ap, refl, cond}
 use Rattle.std.specs.FinMap as map
 use Rattle.acl_names.specs.Bits.{◌∪◌, has_all}

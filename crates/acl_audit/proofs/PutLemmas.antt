@@ -81,7 +81,7 @@ not_found q [] below = refl
 not_found q (e ∷ es) below =
     ap (λ b. cond b (Some e.1) (found_in q es)) (not_tied (order q e.0) (and_left _ _ below)) ∙ not_found q es (and_right _ _ below)
 
--- entries in order, as the map tells it
+-- entries in order, as the map reports it
 abbrev pub ascend : List Entry → Bool
 ascend es = is_sorted order es
 

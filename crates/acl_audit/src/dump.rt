@@ -9,7 +9,7 @@ use acl_tree::{Boxed, Node, NodeAcl, Path, Request};
 use bitflags::Flags;
 use std::alloc::{AllocError, Global};
 
-/// The mode that lets nobody do anything, with which nodes are created.
+/// The mode without permissions, with which nodes are created.
 fn no_mode() -> Mode
     ensures { result ≡ no_mode }
 {
@@ -20,8 +20,8 @@ fn no_mode() -> Mode
     }
 }
 
-/// The command that closes the directory at the path, so that nothing that is created in it
-/// inherits: `set P access u::-,g::-,o::-`. It fails only if memory runs out.
+/// The command that closes the directory at the path, so that what is created in it inherits
+/// nothing: `set P access u::-,g::-,o::-`. Fails only if memory runs out.
 pub fn close(alloc: Global, path: &Path) -> Result<Request, AllocError>
     ensures { IfOk result (λ request. request ≡ SetAccess path.now closed_list) }
 {
@@ -29,8 +29,8 @@ pub fn close(alloc: Global, path: &Path) -> Result<Request, AllocError>
     Ok(Request::SetAccess(path.try_clone(alloc)?, acl))
 }
 
-/// Appends the command that creates the node at the path, of which nobody may do anything yet; none
-/// for the root, which is there. It fails only if memory runs out.
+/// Appends the command that creates the node at the path, without permissions; none for the root,
+/// which exists already. Fails only if memory runs out.
 pub fn push_creation(
     alloc: Global,
     path: &Path,
@@ -80,8 +80,8 @@ fn push_default(
     Ok(())
 }
 
-/// Appends the commands that give a node that was just created at the path the lists that this one
-/// has. It fails only if memory runs out.
+/// Appends the commands that give the node at the path, which was just created, the lists of
+/// `node`. Fails only if memory runs out.
 pub fn push_lists(
     alloc: Global,
     path: &Path,

@@ -1,10 +1,10 @@
-//! The laws of what is reported of trees, over the definitions alone.
+//! Laws of what is reported about trees, about the definitions alone.
 ghost use Rattle.acl_audit.specs.Checks.{AlikeNodesAreCheckedAlike, LetterIsChecked};
 ghost use Rattle.acl_audit.specs.Dump.{DumpsMakeTheTree};
 ghost use Rattle.acl_audit.specs.Quiet.{FilesNeverInherit};
 
-/// A letter is reported of a user exactly if the tree's own check of it is answered `granted`.
-/// Where commands leave a node alike for all, every user's checks of it are answered as they were
+/// A letter is reported for a user exactly if the tree's own check of it replies `granted`. If
+/// commands leave a node the same for everybody, every user's checks of it have the same replies as
 /// before. There is nothing to run here: a proof cites the contract.
 pub fn check_laws()
     ensures read { LetterIsChecked 4 }
@@ -13,9 +13,9 @@ pub fn check_laws()
     ensures alike { AlikeNodesAreCheckedAlike }
 {}
 
-/// Over the tree that commands began with, the dump of the tree that they made makes it again:
-/// kinds, owners, groups, lists and umask. No file of such a tree has a list that anything would
-/// inherit, so that none is refused. There is nothing to run here: a proof cites the contract.
+/// Over the tree from which commands started, the dump of the tree that they made makes it again:
+/// kinds, owners, groups, lists and umask. No file of such a tree has a list with inheritable
+/// entries, so none is refused. There is nothing to run here: a proof cites the contract.
 pub fn dump_laws()
     ensures again { DumpsMakeTheTree }
     ensures files { FilesNeverInherit }

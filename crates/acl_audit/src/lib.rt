@@ -1,4 +1,4 @@
-//! What auditors ask of trees: what makes one again.
+//! Dumping trees: the commands that make one again.
 #![tactic(auto)]
 
 mod dump;

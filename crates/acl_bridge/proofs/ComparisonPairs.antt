@@ -1,4 +1,4 @@
--- The askers of all pairs of POSIX entries tell whether two lists grant a request alike to everyone.
+-- The askers of all pairs of POSIX entries report whether two lists grant a request alike to everyone.
 use Rattle.std.proofs.Common.{◌≡◌, ◌≢◌, ℕ, zero, suc, Bool, true, false, not, refl, sym, ◌∙◌, List, Some, get_or, arith}
 use Rattle.std.specs.List.{All}
 use Rattle.std.proofs.lemmas.Bool.{true≢false}
@@ -60,7 +60,7 @@ module _ (first second : List EntryValue) (valid_first : IsValid first) (valid_s
       λ who holds. (of_reading (At who) request second holds.0, holds.1) in
       (of_reading Across request first (λ k d inside. across (who_of (get_or first k d).tag) (each.0 k d inside)), across Everyone each.1)
 
-  -- those with the uid of a requester, or of a stranger, tell whether that one is granted the request alike
+  -- those with the uid of a requester, or of a stranger, report whether that one is granted the request alike
   pub granted_for : (requester : Identity) (stranger : ℕ)
       → IsStranger (λ (entry : EntryValue). who_of entry.tag) owners.owner first stranger
       → IsStranger (λ (entry : EntryValue). who_of entry.tag) other_owners.owner second stranger
@@ -92,8 +92,8 @@ pairs_suffice_posix first second valid_first valid_second owners other_owners re
     all_alike first second valid_first valid_second owners other_owners request asked
 
 -- what is granted differently to someone isn't granted alike to all
-pub unlike_tells : (before after : Granter) (request : ℕ) (unlike : Unlike) → IsUnlike before after request unlike → GrantAlikeToAll before after request → ⊥
-unlike_tells before after request unlike is alike =
+pub unlike_reports : (before after : Granter) (request : ℕ) (unlike : Unlike) → IsUnlike before after request unlike → GrantAlikeToAll before after request → ⊥
+unlike_reports before after request unlike is alike =
     differs unlike.before (sym is.before ∙ alike (identity_of unlike.asker) ∙ is.after)
   where
     differs : (b : Bool) → b ≡ not b → ⊥

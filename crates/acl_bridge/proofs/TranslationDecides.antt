@@ -112,7 +112,7 @@ module _ (acl : List EntryValue) (valid : IsValid acl) (owner group : ℕ) (requ
       (matching-is Groups (is_for_group_of requester group) the_groups)
       (ap (λ (entries : List EntryValue). entries ∷ []) (matching-is Others (λ tag. same_tag tag Other) the_others)))))
 
-  -- of a mode's bit the translation tells what a deciding entry has
+  -- of a mode's bit the translation reports what a deciding entry has
   bit_allowed : (bit : ℕ) → has mode_bits bit ≡ true
       → allows applies bit (translation acl)
       ≡ list_any (λ entry. has (effective_perms acl entry) (permission_of bit)) (deciding_set acl owner group requester)

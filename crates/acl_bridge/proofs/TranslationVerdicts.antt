@@ -18,7 +18,7 @@ use Rattle.acl_bridge.specs.declared.passes.Class.TheVariants.{Owner, Users, Gro
 use Rattle.acl_bridge.specs.declared.passes.Part.{Part}
 use Rattle.acl_bridge.specs.declared.passes.Part.TheVariants.{Allowed, Denied, Settled}
 
--- what those to whom the entries apply are told, if there are any
+-- what those to whom the entries apply are reported, if there are any
 abbrev said_by : {X : Type 0} → (X → Bool) → List X → Option Bool
 said_by h [] = None
 said_by h (x ∷ xs) = Some (list_any h (x ∷ xs))

@@ -1,4 +1,4 @@
--- Files, as far as their lists decide: the owners, and the list, of either style.
+-- Files, as far as they decide access: the owners, and the list, of either style.
 use Rattle.std.specs.Prelude.{ℕ, Bool}
 use Rattle.acl_names.specs.Requester.{Identity}
 use Rattle.acl_posix.specs.Access.{grants}
@@ -13,7 +13,7 @@ use Rattle.acl_bridge.specs.declared.any_acl.AnyAclRef.{AnyAclRef}
 use Rattle.acl_bridge.specs.declared.any_acl.AnyAclRef.TheVariants as reference
 use Rattle.acl_bridge.specs.declared.file_acl.FileAcl.{FileAcl}
 
--- what decides about access to a file: its owners, and its list
+-- what decides access to a file: its owners, and its list
 pub record File : Type 0 where
   pub owners : Owners
   pub list : AnyAcl
@@ -29,7 +29,7 @@ view_list (reference.Nfs4 acl) = Nfs4 acl.now
 abbrev pub view_acl : FileAcl → File
 view_acl file = file_with file.owners (view_list file.list)
 
--- what a list decides, bit by bit
+-- what a list grants, bit by bit
 abbrev pub decider_at : AnyAcl → Owners → Decider
 decider_at (Posix acl) owners = granted_at acl owners
 decider_at (Nfs4 aces) owners = decided_at aces owners

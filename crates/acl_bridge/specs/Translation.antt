@@ -18,7 +18,7 @@ use Rattle.acl_bridge.specs.declared.passes.Class.TheVariants.{Owner, Users, Gro
 use Rattle.acl_bridge.specs.declared.passes.Part.{Part}
 use Rattle.acl_bridge.specs.declared.passes.Part.TheVariants.{Allowed, Denied, Settled}
 
--- whether an entry with this tag is of the class; a mask is of none
+-- whether an entry with this tag is of the class; a mask is in none
 abbrev pub is_in : Class → Tag → Bool
 is_in Owner UserObj = true
 is_in Users (User _) = true
@@ -31,24 +31,24 @@ is_in _ _ = false
 abbrev pub in_class : Class → List EntryValue → List EntryValue
 in_class class acl = filter (λ entry. is_in class entry.tag) acl
 
--- what is made for one who has these permissions: what they allow, the rest, which is denied, or
--- the one and then the other
+-- the entries for a who with these permissions: what they allow, the rest, which is denied, or the
+-- one and then the other
 abbrev pub aces_for : Part → Who → ℕ → List Nfsace4
 aces_for Allowed who perms = plain_ace Allow who (mask_of perms)
 aces_for Denied who perms = plain_ace Deny who (rest_of perms)
 aces_for Settled who perms = plain_ace Allow who (mask_of perms)
     ++ plain_ace Deny who (rest_of perms)
 
--- what is made of an entry under the mask
+-- the entries made for an entry under the mask
 abbrev pub aces_of_entry : Part → List EntryValue → EntryValue → List Nfsace4
 aces_of_entry part acl entry = aces_for part (who_of entry.tag) (effective_perms acl entry)
 
--- what a pass over a list makes of the entries of its class
+-- the entries that a pass over a list makes for those of its class
 abbrev pub aces_of_pass : Class × Part → List EntryValue → List Nfsace4
 aces_of_pass (class, part) acl = flat_map (aces_of_entry part acl) (in_class class acl)
 
--- The owner and each user are settled one by one. Entries for groups join, so that none of them
--- denies before all of them have allowed.
+-- The owner and each user are settled one by one. Entries for groups work together: none denies
+-- before all of them have allowed.
 abbrev pub passes : List (Class × Part)
 passes = (Owner, Settled) ∷ (Users, Settled) ∷ (Groups, Allowed) ∷ (Groups, Denied)
     ∷ (Others, Allowed) ∷ []
@@ -60,11 +60,12 @@ translation acl = flat_map (λ pass. aces_of_pass pass acl) passes
 abbrev pub with_flags : ℕ → Nfsace4 → Nfsace4
 with_flags flags ace = record ace { flags = ace.flags ∪ flags }
 
--- the flags of what takes effect where it stands, and is handed on to files and directories below
+-- the flags of an entry that takes effect on the directory itself, and that files and directories
+-- below inherit
 abbrev pub inheriting_flags : ℕ
 inheriting_flags = 2 ^ file_inherit + 2 ^ directory_inherit
 
--- and of what takes effect only below
+-- and of an entry that takes effect only below
 abbrev pub only_inheriting_flags : ℕ
 only_inheriting_flags = inheriting_flags + 2 ^ inherit_only
 

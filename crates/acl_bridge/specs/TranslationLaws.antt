@@ -19,14 +19,14 @@ use Rattle.acl_nfs4.specs.declared.inheritance.Kind.TheVariants.{File, Dir}
 use Rattle.acl_bridge.specs.Translation.{translation, default_translation, with_flags}
 use Rattle.acl_bridge.specs.Translation.{inheriting_flags}
 
--- for every owner, group and requester the one grants the permissions if the other does
+-- for every owner, group and requester, one grants the permissions exactly if the other does
 abbrev pub AgreeOn : List EntryValue → List Nfsace4 → ℕ → Type 0
 AgreeOn acl aces perms =
     (owner group : ℕ) (requester : Identity)
     → IsTrue (grants acl owner group requester perms)
     ↔ Grants (matches owner group requester) aces (mask_of perms)
 
--- they decide alike of each single permission
+-- they grant the same single permissions
 pub record DecideAlike (acl : List EntryValue) (aces : List Nfsace4) : Type 0 where
   pub to_read : AgreeOn acl aces (2 ^ read_permission)
   pub to_write : AgreeOn acl aces (2 ^ write_permission)
@@ -39,7 +39,7 @@ GrantsAsMuch acl aces =
     → IsTrue (grants acl owner group requester perms)
     → Grants (matches owner group requester) aces (mask_of perms)
 
--- what the owner, the file's group under the mask, and the others have
+-- the permissions of the owner, of the file's group under the mask, and of the others
 abbrev pub translated_mode : List EntryValue → Classes
 translated_mode acl = record {
   user = perms_at UserObj acl;
@@ -47,8 +47,8 @@ translated_mode acl = record {
   other = perms_at Other acl;
 }
 
--- how many entries a translation can have: two of each entry, but none of the mask and one of the
--- others'
+-- how many entries a translation can have: two for each entry, but none for the mask and one for
+-- the others'
 abbrev pub most_translated : ℕ
 most_translated = 2 * MAX_ENTRIES - 3
 

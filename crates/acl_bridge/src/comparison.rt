@@ -1,4 +1,4 @@
-//! Comparing POSIX lists for everyone, through their translations.
+//! Comparing lists for everyone, through translations of POSIX lists.
 ghost use Rattle.std.specs.Prelude.{◌≡◌, ◌↔◌, None, IfOk, IfSome};
 ghost use Rattle.acl_nfs4.specs.Comparison.{DecideAlike, IsDifference, decided_at};
 ghost use Rattle.acl_nfs4.specs.Mask.{mode_bits};
@@ -10,7 +10,7 @@ use acl_nfs4::{Acl4, Difference, Owners};
 use acl_posix::Acl;
 use std::alloc::{AllocError, Global};
 
-/// The list as an NFSv4 list, which decides each of these bits as the list decides its permission.
+/// The NFSv4 list that grants each of these bits as the POSIX list grants its permission.
 fn as_nfs4(alloc: Global, acl: &Acl) -> Result<Acl4, AllocError>
     ensures { IfOk result (DecidesEachBit acl.now) }
 {
@@ -19,10 +19,10 @@ fn as_nfs4(alloc: Global, acl: &Acl) -> Result<Acl4, AllocError>
     translate(alloc, acl)
 }
 
-/// What a POSIX list and an NFSv4 list decide differently, each for a file of its own owners, of
-/// the bits that stand for permissions: none exactly if each of them is decided for every requester
-/// as its permission alone is; else someone in at most two groups, with what only the one and what
-/// only the other grants. It fails only if memory runs out.
+/// Compares a POSIX list with an NFSv4 list, each for a file of its own owners, in the bits that
+/// permissions mean. `None` exactly if the NFSv4 list grants each bit to the requesters to whom the
+/// POSIX list grants its permission alone; else a requester in at most two groups, with what only
+/// the one and only the other list grants. Fails only if memory runs out.
 pub fn difference_from_posix(
     alloc: Global,
     acl: &Acl,
@@ -41,10 +41,10 @@ pub fn difference_from_posix(
     Ok(before.difference(owners, aces, other_owners, mode_bits()))
 }
 
-/// What two POSIX lists decide differently, each for a file of its own owners, of the permissions
-/// one by one: none exactly if each is granted to the same requesters, of whatever uid and groups;
-/// else someone in at most two groups, with what only the one and what only the other grants. One
-/// bit stands for each permission: READ_DATA, WRITE_DATA and EXECUTE. It fails only if memory runs
+/// Compares two POSIX lists, each for a file of its own owners, in the permissions one by one.
+/// `None` exactly if both grant each to the same requesters, of whatever uid and groups; else a
+/// requester in at most two groups, with what only the one and only the other list grants. Each
+/// permission is reported as one bit: READ_DATA, WRITE_DATA and EXECUTE. Fails only if memory runs
 /// out.
 pub fn posix_difference(
     alloc: Global,

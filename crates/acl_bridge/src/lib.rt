@@ -1,4 +1,4 @@
-//! The two styles of access control list, and POSIX lists as NFSv4 lists that decide alike.
+//! The two styles of access control list, and the translation of POSIX lists to NFSv4 lists.
 #![tactic(auto)]
 
 mod any_acl;

@@ -1,4 +1,4 @@
-//! Comparing the lists of files, of either style, for everyone.
+//! Comparing the lists of two files, of either style, for everyone.
 ghost use Rattle.std.specs.Prelude.{IfOk};
 ghost use Rattle.acl_bridge.specs.Files.{file_with, view_acl};
 ghost use Rattle.acl_bridge.specs.Lists.{Finds};
@@ -12,8 +12,7 @@ use acl_posix::Acl;
 use bitflags::Flags;
 use std::alloc::{AllocError, Global};
 
-/// What two POSIX lists decide differently: of the permissions by themselves, or else of the
-/// requests of several.
+/// Compares two POSIX lists: the permissions one by one, and else the requests of several.
 fn between_posix_lists(
     alloc: Global,
     before: &Acl,
@@ -30,7 +29,7 @@ fn between_posix_lists(
     }
 }
 
-/// What a POSIX list and an NFSv4 list decide differently.
+/// Compares a POSIX list with an NFSv4 list.
 fn from_posix(
     alloc: Global,
     before: &Acl,
@@ -44,7 +43,7 @@ fn from_posix(
     difference_from_posix(alloc, before, owners, after, other_owners)
 }
 
-/// What an NFSv4 list and a POSIX list decide differently.
+/// Compares an NFSv4 list with a POSIX list.
 fn towards_posix(
     alloc: Global,
     before: &Acl4,
@@ -61,7 +60,7 @@ fn towards_posix(
     }
 }
 
-/// What two NFSv4 lists decide differently.
+/// Compares two NFSv4 lists.
 fn between_nfs4_lists(
     before: &Acl4,
     owners: &Owners,
@@ -74,13 +73,13 @@ fn between_nfs4_lists(
     before.difference(owners, after, other_owners, Mask::all())
 }
 
-/// What two files' lists decide differently, each for its own owners: none exactly if they decide
-/// alike for every requester, of whatever uid and groups; else someone in at most two groups, with
-/// what only the one and what only the other grants.
+/// Compares two files' lists, each for its own owners. `None` exactly if both grant every requester
+/// the same, of whatever uid and groups; else a requester in at most two groups, with what only the
+/// one and only the other list grants.
 ///
-/// Between NFSv4 lists all bits of a mask are compared; between POSIX lists the permissions, first
+/// Between NFSv4 lists it compares all bits of a mask; between POSIX lists the permissions, first
 /// each by itself and then the requests of several, as a whole; between lists of different styles
-/// the bits of a file mode, each by itself, and no request of several. It fails only if memory runs
+/// the bits of a file mode, each by itself, and no request of several. Fails only if memory runs
 /// out.
 pub fn list_difference(
     alloc: Global,

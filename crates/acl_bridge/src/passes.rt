@@ -20,7 +20,7 @@ use std::alloc::AllocError;
 pub(crate) enum Class {
     Owner,
     Users,
-    /// The file's group, and groups by their ids.
+    /// The file's group, and groups by id.
     Groups,
     Others,
 }
@@ -30,22 +30,22 @@ pub(crate) enum Class {
 pub(crate) enum Part {
     /// What the entry allows.
     Allowed,
-    /// The rest, which the entry denies.
+    /// What the entry denies: the rest.
     Denied,
-    /// The one, and then the other.
+    /// What the entry allows, and then what it denies.
     Settled,
 }
 
 /// Where the entries of a translation take effect.
 #[derive(Clone, Copy)]
 pub(crate) enum Effect {
-    /// Where the list stands.
+    /// On the file itself.
     Here,
-    /// On what is made below, and only there.
+    /// On what is created below it, and only there.
     Below,
 }
 
-/// The passes in their order. Entries for groups join: none of them denies before all of them have
+/// The passes in their order. Entries for groups work together: none denies before all have
 /// allowed.
 pub(crate) const PASSES: [(Class, Part); 5] = [
     (Class::Owner, Part::Settled),
@@ -72,7 +72,7 @@ impl Class {
 }
 
 impl Effect {
-    /// The flags that entries with this effect have beside their own.
+    /// The flags of inheritance of entries with this effect.
     fn flags(self) -> Flags
         ensures { flag_bits result ≡ flags_of self }
     {
@@ -85,8 +85,7 @@ impl Effect {
     }
 }
 
-/// Puts an entry after the others. The list may have one more, so that it fails only if memory runs
-/// out.
+/// Appends an entry. The list has room for it, so this fails only if memory runs out.
 fn push(aces: &mut Acl4, ace: Ace) -> Result<(), AllocError>
     requires room { length aces.old < MAX_ACES }
     requires effective { is_idle ace ≡ false }
@@ -100,7 +99,7 @@ fn push(aces: &mut Acl4, ace: Ace) -> Result<(), AllocError>
     }
 }
 
-/// Puts an entry of these parts after the others, unless its mask is empty.
+/// Appends an entry of these parts, unless its mask is empty.
 fn push_made(
     aces: &mut Acl4,
     kind: AceType,
@@ -122,7 +121,7 @@ fn push_made(
     push(aces, Ace::new(kind, effect.flags(), who, mask))
 }
 
-/// Appends what these permissions allow.
+/// Appends an entry that allows these permissions.
 fn append_allowed(aces: &mut Acl4, who: Who, perms: Perms, effect: Effect) -> Result<(), AllocError>
     requires room { length (aces.old ++ with_effect effect
         (aces_for Part.Allowed who (bits_of perms))) ≤ MAX_ACES }
@@ -134,7 +133,7 @@ fn append_allowed(aces: &mut Acl4, who: Who, perms: Perms, effect: Effect) -> Re
     push_made(aces, AceType::Allow, who, mask_of(perms), effect)
 }
 
-/// Appends the rest, which is denied.
+/// Appends an entry that denies the permissions other than these.
 fn append_denied(aces: &mut Acl4, who: Who, perms: Perms, effect: Effect) -> Result<(), AllocError>
     requires room { length (aces.old ++ with_effect effect
         (aces_for Part.Denied who (bits_of perms))) ≤ MAX_ACES }
@@ -146,7 +145,7 @@ fn append_denied(aces: &mut Acl4, who: Who, perms: Perms, effect: Effect) -> Res
     push_made(aces, AceType::Deny, who, rest_of(perms), effect)
 }
 
-/// Appends what is made for one who has these permissions.
+/// Appends what a pass makes for a `who` with these permissions.
 fn append_made(
     aces: &mut Acl4,
     part: Part,

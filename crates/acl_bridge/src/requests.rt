@@ -7,16 +7,16 @@ use acl_names::Asker;
 use acl_nfs4::{Compared, Owners, difference_by_pairs};
 use acl_posix::{Acl, Perms};
 
-/// To whom two lists grant a request differently.
+/// A requester to whom one of two lists grants a request and the other doesn't.
 #[derive(Clone, Copy, Debug, PartialEq, Eq)]
 pub struct Unlike {
-    /// To whom.
+    /// The requester.
     pub asker: Asker,
-    /// Whether the first list grants it; the second doesn't then.
+    /// Whether it is the first list that grants it.
     pub before: bool,
 }
 
-/// Two lists, each for a file of its own owners, as they are asked to grant this request.
+/// Two lists to compare in this request, each for a file of its own owners.
 #[derive(Drop)]
 struct Lists<'a> {
     first: &'a Acl,
@@ -55,10 +55,10 @@ impl<'a> Compared for Lists<'a> {
     }
 }
 
-/// To whom two POSIX lists grant a whole request differently, each for a file of its own owners:
-/// none exactly if they grant it to the same requesters, of whatever uid and groups; else someone
-/// in at most two groups. It asks the asker of each pair of entries, at most 65 times 65, and takes
-/// no memory.
+/// Compares two POSIX lists in a whole request, each for a file of its own owners. `None` exactly
+/// if both grant it to the same requesters, of whatever uid and groups; else a requester in at most
+/// two groups. It tries a requester for each pair of entries, at most 65 times 65, and takes no
+/// memory.
 pub fn request_difference(
     first: &Acl,
     owners: &Owners,

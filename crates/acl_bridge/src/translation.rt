@@ -1,4 +1,4 @@
-//! POSIX access control lists as NFSv4 lists.
+//! Translating POSIX access control lists to NFSv4 lists.
 ghost use Rattle.std.specs.Prelude.{◌≡◌, ◌≤◌, length, map, IfOk, IsOk};
 ghost use Rattle.acl_posix.specs.Canonical.{IsAcl};
 ghost use Rattle.acl_posix.specs.declared.limits.TheConstants.{INLINE_ENTRIES};
@@ -15,8 +15,8 @@ use acl_nfs4::{Acl4, Kind, MAX_ACES};
 use acl_posix::{Acl, MAX_ENTRIES};
 use std::alloc::{AllocError, Global};
 
-// A translation always fits: there are at most two entries for each of the list's, none for its
-// mask, and one for the others.
+// A translation always fits: it has at most two entries for each of the list's, none for its mask,
+// and one for the others.
 const _: () = prove!(2 * MAX_ENTRIES - 3 <= MAX_ACES);
 
 /// The list's translation, to take effect here or below.
@@ -34,12 +34,13 @@ fn translation_for(alloc: Global, acl: &Acl, effect: Effect) -> Result<Acl4, All
     Ok(aces)
 }
 
-/// The list as an NFSv4 list: for every owner, group and requester both decide alike of each single
-/// permission to read, write or execute, where to write is `WRITE_DATA` with `APPEND_DATA`. Each
-/// entry allows what it has under the mask and denies the rest, with flags none but the group's
-/// own: the owner's, the users' by id, the file's group's with the groups' by id, which deny only
-/// once all of them have allowed, and the others', which only allow. Empty entries are left out. It
-/// fails only if memory runs out.
+/// Translates the list to an NFSv4 list that grants every requester the same single permissions to
+/// read, write or execute, for every owner and group; to write is `WRITE_DATA` with `APPEND_DATA`.
+/// Each entry becomes one that allows what it has under the mask, and one that denies the rest,
+/// without flags but `IDENTIFIER_GROUP`, in this order: the owner's; the users' by id; those of the
+/// file's group and the groups by id, which deny only after all of them have allowed; and the
+/// others', which only allow. Entries with an empty mask are left out. Fails only if memory runs
+/// out.
 pub fn translate(alloc: Global, acl: &Acl) -> Result<Acl4, AllocError>
     ensures list { IfOk result (λ aces. aces ≡ translation acl.now) }
     ensures short { length acl.now ≤ INLINE_ENTRIES → IsOk result }
@@ -51,9 +52,9 @@ pub fn translate(alloc: Global, acl: &Acl) -> Result<Acl4, AllocError>
     translation_for(alloc, acl, Effect::Here)
 }
 
-/// A default list as an NFSv4 list: its translation, with `FILE_INHERIT`, `DIRECTORY_INHERIT` and
-/// `INHERIT_ONLY` on each entry. It takes no effect on the directory itself; what is made there
-/// inherits the translation. It fails only if memory runs out.
+/// Translates a default list to an NFSv4 list with `FILE_INHERIT`, `DIRECTORY_INHERIT` and
+/// `INHERIT_ONLY` on each entry. It has no effect on the directory itself; what is created in it
+/// inherits the translation. Fails only if memory runs out.
 pub fn translate_default(alloc: Global, acl: &Acl) -> Result<Acl4, AllocError>
     ensures list { IfOk result (λ aces. aces ≡ default_translation acl.now) }
     ensures short { length acl.now ≤ INLINE_ENTRIES → IsOk result }

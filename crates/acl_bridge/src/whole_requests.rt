@@ -1,4 +1,4 @@
-//! Comparing POSIX lists for everyone, by the requests of more than one permission.
+//! Comparing POSIX lists for everyone, in the requests of more than one permission.
 ghost use Rattle.std.specs.Prelude.{MatchOption, map};
 ghost use Rattle.std.specs.List.{AllByRecursion};
 ghost use Rattle.acl_posix.specs.Perms.{bits_of};
@@ -12,7 +12,7 @@ use acl_nfs4::{Difference, Mask, Owners};
 use acl_posix::{Acl, Perms};
 use bitflags::Flags;
 
-/// To whom the lists grant one request differently.
+/// A requester to whom only one of the lists grants the request.
 fn difference_in(
     first: &Acl,
     owners: &Owners,
@@ -27,24 +27,23 @@ fn difference_in(
         (bits_of request)) }
 {
     let unlike = request_difference(first, owners, second, other_owners, request)?;
-    let told = mask_for(request);
+    let reported = mask_for(request);
     Some(if unlike.before {
         Difference {
             asker: unlike.asker,
-            lost: told,
+            lost: reported,
             gained: Mask::empty(),
         }
     } else {
         Difference {
             asker: unlike.asker,
             lost: Mask::empty(),
-            gained: told,
+            gained: reported,
         }
     })
 }
 
-/// To whom the lists grant the first of the requests differently that they don't grant alike to
-/// everyone.
+/// A requester to whom only one of the lists grants the first request in which they differ.
 fn first_difference(
     first: &Acl,
     owners: &Owners,
@@ -66,11 +65,11 @@ fn first_difference(
     None
 }
 
-/// What two POSIX lists decide differently, each for a file of its own owners, of the requests of
-/// more than one permission: none exactly if each is granted as a whole to the same requesters, of
-/// whatever uid and groups; else someone in at most two groups, who loses or gains the first that
-/// isn't, in the order rw, rx, wx, rwx. Lists that decide each single permission alike may differ
-/// so, since one entry has to grant the whole of a request. One bit stands for each permission:
+/// Compares two POSIX lists, each for a file of its own owners, in the requests of more than one
+/// permission. `None` exactly if both grant each as a whole to the same requesters, of whatever uid
+/// and groups; else a requester in at most two groups who loses or gains the first that differs, in
+/// the order rw, rx, wx, rwx. Lists that grant the same single permissions may differ in these,
+/// since one entry has to grant the whole of a request. Each permission is reported as one bit:
 /// READ_DATA, WRITE_DATA and EXECUTE. It takes no memory.
 pub fn whole_request_difference(
     first: &Acl,

@@ -29,8 +29,7 @@ impl<I: Drop, R: Drop> ClosedEnd<I, R> {
         self.session
     }
 
-    /// The next answer, in the order of the journal. `None` if none is seen, which says nothing of
-    /// later.
+    /// The next answer, in the order of the journal; `None` if none has come yet.
     pub fn poll(&mut self) -> Option<R>
         ensures same { IsSameEnd (Closed self.old) (Closed self.new) }
         ensures pairs { StaysEndOf (Closed self.old) (Closed self.new) }

@@ -2,8 +2,8 @@
 use crate::Service;
 use std::marker::Model;
 
-/// An entry of a journal: the session, and of the item that was taken as much as the service keeps.
-/// A contract sees the entry with the whole item.
+/// An entry of a journal: the session, and what the service keeps of the item that was taken. A
+/// contract sees the entry with the whole item.
 #[derive(Drop)]
 pub struct KeptEntry<S: Service> {
     session: u32,
@@ -46,7 +46,7 @@ impl<S: Service> KeptEntry<S> {
         &self.item
     }
 
-    /// What is kept of the item. The session is let go.
+    /// What is kept of the item, without the session.
     pub fn into_kept(self) -> S::Kept
         ensures { S.request_of result ≡ self.item }
     {

@@ -1,4 +1,4 @@
-//! The sentence that the broker is built for, as a law.
+//! The law that the broker is built for.
 ghost use Rattle.acl_broker.specs.Points.{BrokerState};
 ghost use Rattle.acl_broker.specs.Steps.{History, GoesOnAll};
 ghost use Rattle.acl_broker.specs.Headline.{Merges};

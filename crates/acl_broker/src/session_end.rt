@@ -32,8 +32,9 @@ impl<I: Drop, R: Drop> SessionEnd<I, R> {
         self.session
     }
 
-    /// Submits an item, after those submitted before. `Err` is "full" and gives it back; it comes
-    /// only if no slot is known to be free, and another try may succeed once the taker has taken.
+    /// Submits an item, after those submitted before. `Err` means "full" and gives the item back;
+    /// it comes only if no slot is known to be free, and another try may succeed after the taker
+    /// has taken.
     pub fn submit(&mut self, item: I) -> Result<(), I>
         ensures same { IsSameEnd (Open self.old) (Open self.new) }
         ensures pairs { StaysEndOf (Open self.old) (Open self.new) }
@@ -49,8 +50,7 @@ impl<I: Drop, R: Drop> SessionEnd<I, R> {
         self.side.submit(item)
     }
 
-    /// The next answer, in the order of the journal. `None` if none is seen, which says nothing of
-    /// later.
+    /// The next answer, in the order of the journal; `None` if none has come yet.
     pub fn poll(&mut self) -> Option<R>
         ensures same { IsSameEnd (Open self.old) (Open self.new) }
         ensures pairs { StaysEndOf (Open self.old) (Open self.new) }

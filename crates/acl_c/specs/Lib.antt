@@ -4,3 +4,4 @@ pub mod Texts
 pub mod Names
 pub mod Compared
 pub mod Created
+pub mod Entries

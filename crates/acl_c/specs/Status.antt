@@ -1,4 +1,4 @@
--- The numbers that tell what goes wrong.
+-- The numbers that report what goes wrong.
 use Rattle.std.specs.Prelude.{ℤ, negsuc}
 use Rattle.acl_nfs4.specs.declared.acl.AceFault.{AceFault}
 use Rattle.acl_nfs4.specs.declared.acl.AceFault.TheVariants as aces

@@ -21,13 +21,14 @@ itself items = items
 
 -- a call puts the bytes of the POSIX list that a text spells where nobody has a name
 abbrev pub PutsAclOfText : List ℕ → ℤ → List ℕ → List ℕ → ℕ → ℕ → Type 0
-PutsAclOfText text told old new old_count new_count = (known : Known) × IsNobody known
-    × PutsAnswer text_number xattr_of (acl_of known (pieces text)) told old new old_count new_count
+PutsAclOfText text reported old new old_count new_count = (known : Known) × IsNobody known
+    × PutsAnswer text_number xattr_of (acl_of known
+    (pieces text)) reported old new old_count new_count
 
 -- a call puts the entries of the NFSv4 list that a text spells where nobody has a name
 abbrev pub PutsAcesOfText : List ℕ → ℤ → List RawAce → List RawAce → ℕ → ℕ → Type 0
-PutsAcesOfText text told old new old_count new_count = (known : Known) × IsNobody known
+PutsAcesOfText text reported old new old_count new_count = (known : Known) × IsNobody known
     × (((aces : List Nfsace4) × Spells (piece_value known) MAX_ACES text aces
-    × Puts (raws_of aces) told old new new_count)
-    ⊎ ((fault : AceFault) × IsTextFault known text fault × (told ≡ ace_fault_number fault)
+    × Puts (raws_of aces) reported old new new_count)
+    ⊎ ((fault : AceFault) × IsTextFault known text fault × (reported ≡ ace_fault_number fault)
     × PutsNothing old new old_count new_count))

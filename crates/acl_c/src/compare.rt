@@ -1,12 +1,11 @@
 //! Lists compared for everybody.
 
-ghost use Rattle.std.specs.Prelude.{◌≢◌, ◌≤◌, length};
-ghost use Rattle.acl_c.specs.Compared.{TellsDifference, TellsUnlike};
+ghost use Rattle.std.specs.Prelude.{◌≢◌};
+ghost use Rattle.acl_c.specs.Compared.{ReportsDifference, ReportsUnlike};
 ghost use Rattle.acl_c.specs.Status.{out_of_memory};
-ghost use Rattle.acl_nfs4.specs.declared.limits.TheConstants.{INLINE_ACES};
 ghost use Rattle.acl_wire.specs.Posix.{IsShort};
 
-use crate::status::{nfs4_error_number, posix_error_number};
+use crate::status::{nfs4_number, posix_error_number};
 use acl_wire::{RawAce, RawAsker, RawDifference, raws_difference, xattr_difference};
 use std::alloc::Global;
 
@@ -24,7 +23,7 @@ pub extern "C" fn meardwyn_posix_compare(
     request: u32,
     who: &mut RawAsker,
 ) -> i32
-    ensures value { TellsUnlike first.now owner group second.now other_owner other_group request
+    ensures value { ReportsUnlike first.now owner group second.now other_owner other_group request
         result who.old who.new }
     ensures short { IsShort first.now → IsShort second.now → result ≢ out_of_memory }
 {
@@ -50,7 +49,6 @@ pub extern "C" fn meardwyn_posix_compare(
 /// Whether two NFSv4 lists decide these bits alike for everybody: 0, or 1 if not.
 #[unsafe(no_mangle)]
 pub extern "C" fn meardwyn_nfs4_compare(
-    alloc: Global,
     first: &[RawAce],
     owner: u32,
     group: u32,
@@ -60,26 +58,15 @@ pub extern "C" fn meardwyn_nfs4_compare(
     bits: u32,
     difference: &mut RawDifference,
 ) -> i32
-    ensures value { TellsDifference first.now owner group second.now other_owner other_group bits
-        result difference.old difference.new }
-    ensures short { length first.now ≤ INLINE_ACES → length second.now ≤ INLINE_ACES
-        → result ≢ out_of_memory }
+    ensures { ReportsDifference first.now owner group second.now other_owner other_group bits result
+        difference.old difference.new }
 {
-    match raws_difference(
-        alloc,
-        first,
-        owner,
-        group,
-        second,
-        other_owner,
-        other_group,
-        bits,
-    ) {
+    match raws_difference(first, owner, group, second, other_owner, other_group, bits) {
         Ok(None) => 0,
         Ok(Some(found)) => {
             *difference = found;
             1
         }
-        Err(error) => nfs4_error_number(error),
+        Err(fault) => nfs4_number(fault),
     }
 }

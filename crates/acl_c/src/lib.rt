@@ -11,3 +11,4 @@ mod posix;
 mod status;
 mod text;
 mod version;
+mod xdr;

@@ -1,19 +1,20 @@
 //! Calls on NFSv4 lists, as entries of numbers.
 
 ghost use Rattle.std.specs.Prelude.{◌≡◌, ◌≢◌, ◌≤◌, ◌↔◌, IfOk, IsTrue, length};
-ghost use Rattle.acl_c.specs.Answers.{AreGranting, PutsAnswer, PutsEntries, Tells, TellsAllowed};
-ghost use Rattle.acl_c.specs.Answers.{TellsDecided, TellsWhether, mode_number, number_of_answer};
+ghost use Rattle.acl_c.specs.Answers.{AreGranting, PutsAnswer, PutsItems, ReportsAllowed};
+ghost use Rattle.acl_c.specs.Answers.{ReportsDecided, ReportsWhether, classes_number};
+ghost use Rattle.acl_c.specs.Answers.{number_of_answer};
 ghost use Rattle.acl_c.specs.Answers.{kind_below, zero_number};
 ghost use Rattle.acl_c.specs.Status.{nfs4_number, out_of_memory};
 ghost use Rattle.acl_c.specs.Texts.{itself};
 ghost use Rattle.acl_names.specs.Requester.{Identity};
-ghost use Rattle.acl_nfs4.specs.Evaluation.{Grants, mode_of};
+ghost use Rattle.acl_nfs4.specs.Evaluation.{Grants};
 ghost use Rattle.acl_nfs4.specs.Who.{matches};
 ghost use Rattle.acl_nfs4.specs.declared.limits.TheConstants.{INLINE_ACES};
-ghost use Rattle.acl_wire.specs.Decision.{decided_by};
+ghost use Rattle.acl_wire.specs.Decision.{decided_by, values_of};
 ghost use Rattle.acl_wire.specs.Inheritance.{inherited_of};
 ghost use Rattle.acl_wire.specs.ModeChange.{chmod_of};
-ghost use Rattle.acl_wire.specs.RawAces.{list_of};
+ghost use Rattle.acl_wire.specs.Shown.{mode_shown};
 ghost use Rattle.acl_wire.specs.XdrRaws.{xdr_raws_of};
 ghost use Rattle.acl_wire.specs.XdrWriting.{raws_xdr_of};
 
@@ -21,8 +22,8 @@ use crate::buffers::{put_bytes, put_raws};
 use crate::status::{nfs4_error_number, nfs4_number as nfs4_fault_number, no_room};
 use acl_nfs4::Kind;
 use acl_wire::{
-    Decided, Purpose, RawAce, put_xdr_raws, raws_allow, raws_decide, raws_grant, raws_inherited,
-    raws_with_mode, raws_xdr, read_raw_aces,
+    Decided, RawAce, put_xdr_raws, raws_allow, raws_decide, raws_fault, raws_grant, raws_inherited,
+    raws_mode, raws_with_mode, raws_xdr,
 };
 use std::alloc::Global;
 
@@ -47,7 +48,7 @@ pub extern "C" fn meardwyn_nfs4_check(
     request: u32,
 ) -> i32
     ensures { let who : Identity = record { uid = uid; gids = gids.now } in
-        TellsWhether nfs4_number (decided_by aces.now owner group who request)
+        ReportsWhether nfs4_number (decided_by aces.now owner group who request)
         (λ list. Grants (matches owner group who) list request) result }
 {
     match raws_grant(aces, owner, group, uid, gids, request) {
@@ -68,7 +69,7 @@ pub extern "C" fn meardwyn_nfs4_allowed(
     allowed: &mut u32,
 ) -> i32
     ensures { let who : Identity = record { uid = uid; gids = gids.now } in
-        TellsAllowed (decided_by aces.now owner group who request) owner group who request result
+        ReportsAllowed (decided_by aces.now owner group who request) owner group who request result
         allowed.old allowed.new }
 {
     match raws_allow(aces, owner, group, uid, gids, request) {
@@ -91,8 +92,8 @@ pub extern "C" fn meardwyn_nfs4_decide(
     decided: &mut Decided,
 ) -> i32
     ensures { let who : Identity = record { uid = uid; gids = gids.now } in
-        TellsDecided (decided_by aces.now file.now.owner file.now.group who request) file.now.owner
-        file.now.group who request result decided.new }
+        ReportsDecided (decided_by aces.now file.now.owner file.now.group who request)
+        file.now.owner file.now.group who request result decided.new }
 {
     match raws_decide(aces, file.owner, file.group, uid, gids, request) {
         Ok(found) => {
@@ -139,27 +140,25 @@ pub extern "C" fn meardwyn_nfs4_grants(
     }
 }
 
-/// Whether the entries are a list: 0, or why not.
+/// Whether each of the entries can be decided by: 0, or why the first doesn't that can't.
 #[unsafe(no_mangle)]
-pub extern "C" fn meardwyn_nfs4_valid(alloc: Global, aces: &[RawAce]) -> i32
-    ensures value { Tells nfs4_number zero_number (list_of Purpose.Decide aces.now) result }
-    ensures short { length aces.now ≤ INLINE_ACES → result ≢ out_of_memory }
+pub extern "C" fn meardwyn_nfs4_valid(aces: &[RawAce]) -> i32
+    ensures { result ≡ number_of_answer nfs4_number zero_number (values_of aces.now) }
 {
-    match read_raw_aces(alloc, Purpose::Decide, aces) {
-        Ok(_) => 0,
-        Err(error) => nfs4_error_number(error),
+    match raws_fault(aces) {
+        None => 0,
+        Some(fault) => nfs4_fault_number(fault),
     }
 }
 
 /// The mode of a file with the list.
 #[unsafe(no_mangle)]
-pub extern "C" fn meardwyn_nfs4_mode(alloc: Global, aces: &[RawAce]) -> i32
-    ensures value { Tells nfs4_number (mode_number mode_of) (list_of Purpose.Decide aces.now) result }
-    ensures short { length aces.now ≤ INLINE_ACES → result ≢ out_of_memory }
+pub extern "C" fn meardwyn_nfs4_mode(aces: &[RawAce]) -> i32
+    ensures { result ≡ number_of_answer nfs4_number classes_number (mode_shown aces.now) }
 {
-    match read_raw_aces(alloc, Purpose::Decide, aces) {
-        Ok(acl) => i32::from(acl.mode4().bits()),
-        Err(error) => nfs4_error_number(error),
+    match raws_mode(aces) {
+        Ok(mode) => i32::from(mode.bits()),
+        Err(fault) => nfs4_fault_number(fault),
     }
 }
 
@@ -214,7 +213,7 @@ pub extern "C" fn meardwyn_nfs4_inherit(
 /// The entries of the bytes of a list in XDR.
 #[unsafe(no_mangle)]
 pub extern "C" fn meardwyn_nfs4_from_xdr(xdr: &[u8], out: &mut [RawAce], needed: &mut usize) -> i32
-    ensures { PutsEntries (xdr_raws_of xdr.now) result out.old out.new needed.old needed.new }
+    ensures { PutsItems (xdr_raws_of xdr.now) result out.old out.new needed.old needed.new }
 {
     match put_xdr_raws(xdr, out) {
         Ok(count) => {

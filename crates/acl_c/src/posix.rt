@@ -1,7 +1,7 @@
 //! Calls on POSIX lists, in the bytes of extended attributes.
 
 ghost use Rattle.std.specs.Prelude.{◌≡◌, ◌≢◌};
-ghost use Rattle.acl_c.specs.Answers.{PutsAnswer, Tells, granted_number, mode_number};
+ghost use Rattle.acl_c.specs.Answers.{PutsAnswer, Reports, granted_number, mode_number};
 ghost use Rattle.acl_c.specs.Answers.{number_of_answer, zero_number};
 ghost use Rattle.acl_c.specs.Status.{out_of_memory, posix_number};
 ghost use Rattle.acl_posix.specs.Mode.{mode_of};
@@ -66,7 +66,7 @@ fn granted_number(answer: Result<bool, PosixFault>) -> i32
 /// Whether the bytes are a list: 0, or why not.
 #[unsafe(no_mangle)]
 pub extern "C" fn meardwyn_posix_valid(alloc: Global, xattr: &[u8]) -> i32
-    ensures value { Tells posix_number zero_number (acl_of xattr.now) result }
+    ensures value { Reports posix_number zero_number (acl_of xattr.now) result }
     ensures short { IsShort xattr.now → result ≢ out_of_memory }
 {
     match acl_of_xattr(alloc, xattr) {
@@ -78,7 +78,7 @@ pub extern "C" fn meardwyn_posix_valid(alloc: Global, xattr: &[u8]) -> i32
 /// The mode of a file with the list.
 #[unsafe(no_mangle)]
 pub extern "C" fn meardwyn_posix_mode(alloc: Global, xattr: &[u8]) -> i32
-    ensures value { Tells posix_number (mode_number mode_of) (acl_of xattr.now) result }
+    ensures value { Reports posix_number (mode_number mode_of) (acl_of xattr.now) result }
     ensures short { IsShort xattr.now → result ≢ out_of_memory }
 {
     match acl_of_xattr(alloc, xattr) {

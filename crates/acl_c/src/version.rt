@@ -53,8 +53,8 @@ pub extern "C" fn meardwyn_error_name(error: i32, out: &mut [u8], needed: &mut u
     put_bytes(name_of(error).as_bytes(), out, needed)
 }
 
-/// The number of errno for what a call tells: 0 if that is no error. Of memory it is `ENOMEM`, of a
-/// buffer `ERANGE`, of too many entries `ENOSPC`, and else `EINVAL`.
+/// The number of errno for what a call reports: 0 if that is no error. Of memory it is `ENOMEM`, of
+/// a buffer `ERANGE`, of too many entries `ENOSPC`, and else `EINVAL`.
 #[unsafe(no_mangle)]
 pub extern "C" fn meardwyn_errno(error: i32) -> i32
     ensures { result ≡ errno_of error }

@@ -12,7 +12,7 @@ use Rattle.acl_cli.specs.Output.{AppendsFront}
 use Rattle.acl_cli.specs.declared.command.Ending.{Ending}
 use Rattle.acl_cli.specs.declared.command.Ending.TheVariants.{Answered}
 use Rattle.acl_cli.specs.declared.failure.Failure.{Failure}
-use Rattle.acl_cli.proofs.TellingLemmas.{Tells-nothing}
+use Rattle.acl_cli.proofs.ReportingLemmas.{Reports-nothing}
 
 -- a command that failed before anything went out
 pub Comes-failed : {I : Type 0} (meaning : Meaning) (failure : Failure) (out : Option (List ℕ)) (err : ErrorText) (input : I) → meaning.Fails failure
@@ -79,7 +79,7 @@ module _ {I : Type 0} (line : App) (helps : Bool) (meaning : List Row → Meanin
       -- help went out
       help_written : (text : List ℕ) → Appends out out' text → Comes (of_words line helps meaning words) (Ok Answered) out out' err err input input
       help_written text went = record {
-        answered = record { answer = help_of text; is = inl (is_helps, asks, refl, refl); ends = refl; text = went; beside = Tells-nothing err };
+        answered = record { answer = help_of text; is = inl (is_helps, asks, refl, refl); ends = refl; text = went; beside = Reports-nothing err };
         fails = tt;
         silent = tt;
         cut = tt;
@@ -102,7 +102,7 @@ module _ {I : Type 0} (line : App) (helps : Bool) (meaning : List Row → Meanin
         answered = tt;
         fails = inl (is_helps, asks);
         silent = λ few. absurd (omega (arith, few));
-        cut = inr (record { answer = help_of text; is = inl (is_helps, asks, refl, refl); text = front; said = 0; beside = Tells-nothing err });
+        cut = inr (record { answer = help_of text; is = inl (is_helps, asks, refl, refl); text = front; said = 0; beside = Reports-nothing err });
         untouched = λ none. refl;
         unread = λ two. refl;
       }

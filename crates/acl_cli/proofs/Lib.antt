@@ -6,6 +6,6 @@ pub mod FailureLemmas
 pub mod FieldLemmas
 pub mod SessionFileLemmas
 pub mod PiecesLemmas
-pub mod TellingLemmas
-pub mod ToldLemmas
+pub mod ReportingLemmas
+pub mod ReportedLemmas
 pub mod CommandsLemmas

@@ -16,10 +16,10 @@ use Rattle.acl_cli.proofs.FailureLemmas.{IsUnexplained-as}
 
 pub HaveBytes-more : (bytes_of : Text → Option (List ℕ)) (input : Option (List ℕ)) (names : List Text) (texts : List (Vec ℕ Global)) (name : Text) (text : Vec ℕ Global)
     → HaveBytes bytes_of input names texts → HasBytes (bytes_of_session bytes_of input name) text.items → HaveBytes bytes_of input (names ++ name ∷ []) (texts ++ text ∷ [])
-HaveBytes-more bytes_of input [] [] name text told last = (last, tt)
+HaveBytes-more bytes_of input [] [] name text reported last = (last, tt)
 HaveBytes-more bytes_of input (first ∷ names) (before ∷ texts) name text (here, more) last = (here, HaveBytes-more bytes_of input names texts name text more last)
-HaveBytes-more bytes_of input [] (before ∷ texts) name text told last = absurd told
-HaveBytes-more bytes_of input (first ∷ names) [] name text told last = absurd told
+HaveBytes-more bytes_of input [] (before ∷ texts) name text reported last = absurd reported
+HaveBytes-more bytes_of input (first ∷ names) [] name text reported last = absurd reported
 
 -- the names themselves
 abbrev pub shown : List (Bor (List ℕ)) → List Text
@@ -60,14 +60,14 @@ module _ (so_far : List Text) (name : Text) where
       go true is = absurd (omega (arith, none, input_count-next is))
       go false is = (omega (arith, none, input_count-append so_far (name ∷ [])), is)
 
--- what is told of a text by the input as it is, by the input as it was, if it stayed for a name that is its
-pub told_before : (bytes_of : Text → Option (List ℕ)) (now first : Option (List ℕ)) (name : Text) (text : List ℕ)
+-- what is reported for a text by the input as it is, by the input as it was, if it stayed for a name that is its
+pub reported_before : (bytes_of : Text → Option (List ℕ)) (now first : Option (List ℕ)) (name : Text) (text : List ℕ)
     → (bytes_eq name (codes "-") ≡ true → now ≡ first) → HasBytes (bytes_of_session bytes_of now name) text → HasBytes (bytes_of_session bytes_of first name) text
-told_before bytes_of now first name text stayed = go (bytes_eq name (codes "-")) stayed
+reported_before bytes_of now first name text stayed = go (bytes_eq name (codes "-")) stayed
   where
     go : (b : Bool) → (b ≡ true → now ≡ first) → HasBytes (cond b now (bytes_of name)) text → HasBytes (cond b first (bytes_of name)) text
-    go true stayed told = subst (λ input. HasBytes input text) (stayed refl) told
-    go false stayed told = told
+    go true stayed reported = subst (λ input. HasBytes input text) (stayed refl) reported
+    go false stayed reported = reported
 
 -- what is refused for one of the names is refused for the names
 pub refused_among : (names : List (Bor (List ℕ))) (at : ℕ) (none : Bor (List ℕ)) → at < length names → (failure : Failure)

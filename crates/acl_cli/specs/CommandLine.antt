@@ -1,4 +1,4 @@
--- The rules of command lines, and which words a line takes.
+-- The rules of command lines, and which words they take.
 use Rattle.std.specs.Prelude.{◌≡◌, ℕ, List, [], Some, fold, true}
 use Rattle.clap.specs.Words.{App, Rule, Text, fault_of, new_app, new_rule, with_rule}
 use Rattle.clap.specs.declared.builder.action.ArgAction.TheVariants.{Append, SetTrue}
@@ -8,14 +8,14 @@ use Rattle.acl_cli.specs.declared.word.Given.{Given}
 use Rattle.acl_cli.specs.declared.word.Given.TheVariants as given
 use Rattle.acl_cli.specs.declared.word.Word.{Word}
 
--- `--name VALUE`, which may be given; and which must be
+-- `--name VALUE`, optional; and required
 abbrev pub optional_option : Text → Rule
 optional_option name = record (new_rule name) { long = Some name; value_names = 1 }
 
 abbrev pub required_option : Text → Rule
 required_option name = record (optional_option name) { required = true }
 
--- the same, which may be given any number of times
+-- the same, any number of times
 abbrev pub repeated_option : Text → Rule
 repeated_option name = record (optional_option name) { action = Some Append }
 
@@ -23,11 +23,11 @@ repeated_option name = record (optional_option name) { action = Some Append }
 abbrev pub count_option : ℕ → Text → Rule
 count_option most name = record (optional_option name) { parser = Some (Unsigned 1 most) }
 
--- `--name` alone, which may be given
+-- `--name` alone, optional
 abbrev pub flag : Text → Rule
 flag name = record (new_rule name) { long = Some name; action = Some SetTrue }
 
--- a word that belongs to no option, which may be given; and which must be
+-- a word that belongs to no option, optional; and required
 abbrev pub optional_word : Text → Rule
 optional_word name = record (new_rule name) { value_names = 1 }
 
@@ -60,6 +60,6 @@ with_word app word = with_rule app (rule_of_word word)
 abbrev pub app_of_line : Line → App
 app_of_line line = fold with_word (new_app line.name.now) line.words.now
 
--- the parser finds no fault in the words, of which the first is the command's name
+-- the parser finds no fault in the words, the first of which is the command's name
 abbrev pub Takes : App → List Text → Type 0
 Takes line words = fault_of line words ≡ []

@@ -1,4 +1,4 @@
--- All faults that the program tells: the exit status and the line of each.
+-- All faults that the program reports: the exit status and the line of each.
 use Rattle.std.specs.Prelude.{◌≡◌, ◌⊎◌, ⊤, ℕ, Bool, false, true, ◌&&◌, List, [], Option, Some}
 use Rattle.std.specs.Prelude.{None, Result, Err, ◌++◌, codes, option_map, unwrap_or}
 use Rattle.std.specs.declared.io.ErrorKind.{ErrorKind as SystemKind}
@@ -22,7 +22,7 @@ use Rattle.acl_cli.specs.declared.reason.Reason.TheVariants.{Unknown, NotFound, 
 use Rattle.acl_cli.specs.declared.reason.Reason.TheVariants.{NotADirectory, IsADirectory}
 use Rattle.acl_cli.specs.declared.run_fault.RunFault.TheVariants.{Memory, Output}
 
--- 1: something is malformed; 2: wrong usage; 3: something failed or lacks
+-- 1: something is malformed; 2: wrong usage; 3: something failed or is lacking
 abbrev pub status_of : Failure → ℕ
 status_of (Usage error) = 2
 status_of (Misuse misuse) = 2
@@ -33,7 +33,7 @@ status_of (Refused refusal) = 1
 status_of (Unread name) = 3
 status_of (Lacks lack) = 3
 
--- the reason that an error of this kind gives, which the system tells
+-- the reason that an error of this kind gives, which the system reports
 abbrev pub reason_of : SystemKind → Reason
 reason_of system.NotFound = NotFound
 reason_of system.PermissionDenied = PermissionDenied
@@ -68,7 +68,7 @@ out_of_memory = Lacks Memory
 abbrev pub failed_write : Failure
 failed_write = Lacks Output
 
--- an answer lacks memory, or can't be written
+-- memory for an answer is lacking, or it can't be written
 abbrev pub IsAnswerLack : Failure → Type 0
 IsAnswerLack failure = (failure ≡ out_of_memory) ⊎ (failure ≡ failed_write)
 
@@ -90,41 +90,41 @@ Explains reading (Malformed malformed) = reading ≡ Err malformed
 Explains reading (Lacks Memory) = ⊤
 Explains reading _ = ⊥
 
--- a failure of the word that stands there
+-- the failure of the word at a place
 abbrev pub failure_at : List ℕ → Option Text → Failure → Failure
 failure_at place word (Field fault) =
     Malformed (record { place = place; word = unwrap_or word []; fault = fault })
 failure_at place word failure = failure
 
--- a failure without where it stands
+-- the failure without its place
 abbrev pub without_place : Failure → Failure
 without_place (Malformed malformed) = Field malformed.fault
 without_place failure = failure
 
--- what has this name can't be read for this: it can't be opened or read, is too long, or memory ran
+-- the input of this name fails to be read: it can't be opened or read, is too long, or memory ran
 -- out
 abbrev pub IsReadFailure : List ℕ → Failure → Type 0
 IsReadFailure name (CannotRead refused reason) = refused.now ≡ name
 IsReadFailure name (Lacks Memory) = ⊤
 IsReadFailure name _ = ⊥
 
--- what has one of these names can't be read, and the reason isn't reported; or memory ran out
+-- an input of one of these names fails to be read, and the reason isn't reported; or memory ran out
 abbrev pub IsUnexplained : (List ℕ → Type 0) → Failure → Type 0
 IsUnexplained IsName (CannotRead refused reason) = IsName refused.now × (reason ≡ Unknown)
 IsUnexplained IsName (Lacks Memory) = ⊤
 IsUnexplained IsName _ = ⊥
 
--- the parser wasn't given what it wants, but asked for help, or for the version
+-- the words ask the parser for help, or for the version
 abbrev pub is_help : ErrorKind → Bool
 is_help DisplayHelp = true
 is_help DisplayVersion = true
 is_help kind = false
 
--- the parser, which finds these faults in words, was asked for help
+-- the words, in which the parser finds these faults, ask for help
 abbrev pub AsksForHelp : Kinds → Type 0
 AsksForHelp kinds = (kind : ErrorKind) × IsAmong kind kinds × (is_help kind ≡ true)
 
--- words are refused by the parser, which finds these faults in them, or memory ran out; or help, if
+-- the parser, which finds these faults in the words, refuses them, or memory ran out; or help, if
 -- it is an answer, can't be written
 abbrev pub IsRefusal : Bool → Kinds → Failure → Type 0
 IsRefusal helps kinds (Usage error) =

@@ -29,19 +29,18 @@ field_fault_words RootUser = codes "root"
 abbrev pub misuse_words : Misuse → List ℕ
 misuse_words InputTwice = codes "- is given twice"
 misuse_words TooManySessions = codes "at most 64 sessions"
-misuse_words DeleteAndOthers = codes "--delete excludes --letters and --perms"
+misuse_words DeleteAndOthers = codes "--delete excludes --letters, --perms and --via"
 misuse_words LettersAndPerms = codes "--letters and --perms exclude each other"
 misuse_words NoCommand = codes "no command"
 misuse_words BadWords = codes "bad words"
 misuse_words TooManyWords = codes "too many words"
 
--- an option stands with its hyphens
+-- an option's place has its hyphens
 abbrev pub place_words : Place → List ℕ
 place_words (place.Option name) = codes "--" ++ name.now
 place_words (place.Word name) = name.now
 
--- a field that is malformed: where it stands among the words, what they give there, and what is
--- wrong with that
+-- a malformed field: its place among the words, its text, and its fault
 pub record Malformed : Type 0 where
   pub place : List ℕ
   pub word : List ℕ

@@ -1,4 +1,4 @@
--- What fields of command lines say, each by itself.
+-- What fields of command lines mean, each by itself.
 use Rattle.std.specs.Prelude.{◌++◌, ℕ, Bool, false, List, [], Option, Some, None, Result, Ok, Err}
 use Rattle.std.specs.Prelude.{bytes_eq, codes, unwrap_or}
 use Rattle.clap.specs.Words.{Text, Row, first_of}
@@ -33,24 +33,24 @@ flag_of (Some text) = bytes_eq text (codes "true")
 
 -- The fields by name, among what the parser found.
 
--- what is read of a word that stands there, and else where it stands
+-- what is read from a word, or its fault with its place
 abbrev pub located : {A : Type 0} → List ℕ → Option Text → Result A FieldFault → Result A Malformed
 located place word (Ok value) = Ok value
 located place word (Err fault) =
     Err (record { place = place; word = unwrap_or word []; fault = fault })
 
--- what is read of the value of an option
+-- what is read from the value of an option
 abbrev pub of_option : {A : Type 0} → Text → (Option Text → Result A FieldFault) → List Row
     → Result A Malformed
 of_option name read rows =
     located (codes "--" ++ name) (first_of name rows) (read (first_of name rows))
 
--- what is read of a word of its own, which help calls so
+-- what is read from a word of its own, which help calls by this name
 abbrev pub of_word : {A : Type 0} → Text → List ℕ → (Option Text → Result A FieldFault) → List Row
     → Result A Malformed
 of_word name place read rows = located place (first_of name rows) (read (first_of name rows))
 
--- what has to be given
+-- a word that must be given
 abbrev pub given : {A : Type 0} → FieldFault → (Text → Result A FieldFault) → Option Text
     → Result A FieldFault
 given missing read word = or_fault missing word >>= read
@@ -64,7 +64,7 @@ gids_in = of_option (codes "gids") gids_of
 abbrev pub perms_in : List Row → Result ℕ Malformed
 perms_in = of_option (codes "perms") (given BadPerms perms_of)
 
--- the same, if the words tell
+-- the same, for an optional word
 abbrev pub perms_given : Option Text → Result (Option ℕ) FieldFault
 perms_given None = Ok None
 perms_given (Some text) = do

@@ -6,7 +6,8 @@ pub mod RunFaults
 pub mod Refusals
 pub mod Faults
 pub mod Failures
+pub mod Usage
 pub mod Fields
 pub mod SessionFiles
 pub mod Commands
-pub mod Telling
+pub mod Reporting

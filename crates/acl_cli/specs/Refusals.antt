@@ -1,9 +1,9 @@
--- What is said of something that is refused.
+-- The line about something that is refused.
 use Rattle.std.specs.Prelude.{◌++◌, ℕ, List, [], Option, None, Some, codes, decimal}
 use Rattle.acl_names.specs.Shown.{shown}
 
--- what is refused; at which line of it, if it is at one; for what; and which bytes are at fault, if
--- some are
+-- what is refused; its line at fault, if there is one; the fault; and the bytes at fault, if there
+-- are any
 pub record Refusal : Type 0 where
   pub name : List ℕ
   pub line : Option ℕ

@@ -1,4 +1,4 @@
--- What is said of a valid command that failed.
+-- The line about a valid command that failed.
 use Rattle.std.specs.Prelude.{ℕ, List, codes}
 use Rattle.acl_cli.specs.declared.run_fault.RunFault.{RunFault}
 use Rattle.acl_cli.specs.declared.run_fault.RunFault.TheVariants.{Memory, Stopped}

@@ -1,4 +1,4 @@
--- The files of a setup and of sessions, as fields name them, and what they have.
+-- The files of a setup and of sessions, as fields name them, and their bytes.
 use Rattle.std.specs.Borrow.{Bor}
 use Rattle.std.specs.Prelude.{◌≡◌, ⊤, ℕ, ◌+◌, List, [], ◌∷◌, Option, Vec, IfSome, codes, map}
 use Rattle.std.specs.Prelude.{bytes_eq, if◌then◌else◌, unwrap_or}
@@ -9,7 +9,7 @@ use Rattle.clap.specs.Words.{Row, Text, all_of, first_of}
 unfoldable pub setup_in : List Row → Text
 setup_in rows = unwrap_or (first_of (codes "setup") rows) []
 
--- the names that there are, if any
+-- the names, or none
 abbrev pub all_names : Option (List Text) → List Text
 all_names names = unwrap_or names []
 
@@ -21,7 +21,7 @@ shown_names names = map (λ name. name.now) names.now
 abbrev pub names_in : Text → List Row → List Text
 names_in name rows = all_names (all_of name rows)
 
--- how many sessions of these names are standard input
+-- how many of these names are standard input
 abbrev pub input_count : List Text → ℕ
 input_count [] = 0
 input_count (name ∷ names) = if bytes_eq name (codes "-") then 1 + input_count names

@@ -1,4 +1,4 @@
-//! Commands: what their words mean, and the one function that runs them.
+//! Commands: what their words mean, and the function that runs them.
 ghost use Rattle.std.specs.Prelude.{◌≡◌, ◌⊎◌, Bool, IfErr, IfOk, List, Option, map, ℕ};
 ghost use Rattle.std.specs.Io.KnownBytes.{Appends, Keeps};
 ghost use Rattle.clap.specs.Words.{Row, Text, found_of, kind_of, rows_of};
@@ -6,6 +6,7 @@ ghost use Rattle.acl_cli.specs.Commands.{Comes, Ends, Meaning, of_words, status_
 ghost use Rattle.acl_cli.specs.Failures.{failed_write, is_help, out_of_memory};
 ghost use Rattle.acl_cli.specs.Output.{AppendsFront};
 
+use crate::tip::refusal_of_words;
 use crate::{CommandLine, ErrorOutput, Failure, OpenFiles, RunFault, parse, write_text};
 use clap::ArgMatches;
 use clap::error::ErrorKind;
@@ -13,8 +14,8 @@ use std::alloc::Global;
 use std::convert::AsStr;
 use std::io::{Read, Write};
 
-/// How a command answers: wholly; or but in part, since something of what it was asked about is
-/// malformed; or with a difference, where the words ask for a status of that.
+/// How a command ended: with its whole answer; with part of it, since some input is malformed; or
+/// with a difference, if the words ask for a status about that.
 #[derive(Clone, Copy, Debug, PartialEq, Eq)]
 pub enum Ending {
     Answered,
@@ -35,7 +36,7 @@ impl Ending {
     }
 }
 
-/// A command: its line, what its fields mean, and what answers them.
+/// A command: its line, what its fields mean, and its answer to them.
 pub trait Command: CommandLine {
     /// What its fields mean, with these files and this standard input.
     ghost meaning: { (Text → Option (List ℕ)) → Option (List ℕ) → List Row → Meaning };
@@ -43,11 +44,12 @@ pub trait Command: CommandLine {
     /// Whether help is an answer.
     ghost helps: { Bool };
 
-    /// Whether help is an answer, on standard output with status 0, and not wrong usage.
+    /// Whether help is an answer, with status 0 on standard output. If not, it is wrong usage, with
+    /// status 2 on standard error.
     fn answers_help() -> bool
         ensures { result ≡ helps };
 
-    /// Writes the answer to the fields that the parser of command lines found.
+    /// Writes the answer to the fields that the parser found in the words.
     fn answer<'a, F: OpenFiles, I: Read, W: Write, E: Write + Drop>(
         &self,
         alloc: Global,
@@ -62,7 +64,7 @@ pub trait Command: CommandLine {
             err.old err.new input.old input.new };
 }
 
-/// Whether the parser of command lines was asked for help, or for the version.
+/// Whether the words asked the parser for help, or for the version.
 fn is_help(error: &clap::Error) -> bool
     ensures { result ≡ is_help (kind_of error.now) }
 {
@@ -73,7 +75,7 @@ fn is_help(error: &clap::Error) -> bool
     }
 }
 
-/// Writes the text of help, which is the parser's own.
+/// Writes the parser's help text.
 fn write_help<'a, W: Write>(
     alloc: Global,
     help: &clap::Error,
@@ -94,7 +96,7 @@ fn write_help<'a, W: Write>(
     }
 }
 
-/// Writes the answer to what the words ask.
+/// Parses the words and writes the answer.
 fn answer_words<'a, C, F, S, I, W, E>(
     command: &C,
     alloc: Global,
@@ -121,14 +123,14 @@ where
             if C::answers_help() && is_help(&error) {
                 write_help(alloc, &error, out)
             } else {
-                Err(Failure::from(error))
+                Err(refusal_of_words::<C, S>(alloc, words, error))
             }
         }
     }
 }
 
-/// Runs the command with these words, its name first, tells what is wrong, and returns the exit
-/// status.
+/// Runs the command with these words, the first of which is its name. It reports a failure on
+/// `err`, and returns the exit status.
 pub fn run_command<C, F, S, I, W, E>(
     command: &C,
     alloc: Global,
@@ -152,7 +154,7 @@ where
     match answer_words(command, alloc, files, words, input, out, err) {
         Ok(ending) => ending.status(),
         Err(failure) => {
-            failure.tell(err);
+            failure.report(err);
             failure.status()
         }
     }

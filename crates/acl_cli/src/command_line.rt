@@ -1,4 +1,4 @@
-//! The line of a command, and what the parser of command lines finds in words.
+//! The line of a command, and what the parser finds in words.
 ghost use Rattle.std.specs.Prelude.{◌≡◌, IfErr, IfOk, OnOk, map, true};
 ghost use Rattle.clap.specs.Words.{App, HasKind, app_of, fault_of, found_of, is_simple, kind_of};
 ghost use Rattle.clap.specs.Words.{is_simple_and_free, matches_of, new_app, rows_of};
@@ -10,13 +10,13 @@ use clap::{ArgMatches, Command, Error};
 use std::alloc::{AllocError, Global};
 use std::convert::AsStr;
 
-/// A command's line: what its parser takes, and what its help says.
+/// A command's line: the words that its parser takes, and its help.
 #[derive(Clone, Copy, Debug)]
 pub struct Line<'a> {
     pub name: &'a str,
     /// What the command does, in a sentence.
     pub about: &'a str,
-    /// What stands behind the options in help.
+    /// What comes after the options in help.
     pub after_help: &'a str,
     pub words: &'a [Word<'a>],
 }
@@ -43,29 +43,29 @@ impl<'a> Line<'a> {
     }
 }
 
-/// A command's line, whose parser is known.
+/// A command's line, of which the parser's clauses hold.
 pub trait CommandLine {
-    /// What the parser sees of it.
+    /// The line as the parser's clauses see it.
     ghost line: { App };
 
-    /// The line. Its values have no parser: what a field may be is for its reader to say.
+    /// The line. The parser takes any value; the reader of a field checks it.
     fn line() -> Line<'static>
         ensures { app_of_line result ≡ line };
 
-    /// The line is one of those for which the parser's clauses hold.
+    /// The parser's clauses hold for the line.
     ghost line_simple: { is_simple line ≡ true };
 
     ghost line_free: { is_simple_and_free line ≡ true };
 }
 
 /// The line of a command for the parser.
-fn command_of<'a, C: CommandLine>(alloc: Global) -> Result<Command<'a>, AllocError>
+pub(crate) fn command_of<'a, C: CommandLine>(alloc: Global) -> Result<Command<'a>, AllocError>
     ensures { IfOk result (λ command. app_of command ≡ C.line) }
 {
     C::line().command(alloc)
 }
 
-/// What the parser finds in the words, of which the first is the command's name. It fails with the
+/// What the parser finds in the words, the first of which is the command's name. Fails with the
 /// parser's own error: if it refuses the words, if they ask for help, or if memory runs out.
 pub fn parse<'a, C: CommandLine, S: AsStr>(
     alloc: Global,

@@ -1,7 +1,7 @@
-//! Standard error: where faults are reported.
+//! Standard error, on which faults are reported.
 ghost use Rattle.std.specs.Prelude.{◌≡◌, ◌++◌, false, option_map};
 ghost use Rattle.acl_names.specs.Shown.{shown, shown_byte};
-ghost use Rattle.acl_cli.specs.ErrorOutput.{Tells, line_of_words};
+ghost use Rattle.acl_cli.specs.ErrorOutput.{Reports, line_of_words};
 ghost use Rattle.acl_cli.specs.Refusals.{line_words, refused_words, text_words};
 
 use super::output::write_text;
@@ -11,8 +11,8 @@ use std::fmt::Display;
 use std::io::Write;
 use std::marker::Model;
 
-/// Where faults are reported. It remembers whether a write failed there, and then writes nothing
-/// more. A contract sees what was written to it, and whether a write failed.
+/// Standard error. After a write failed, it writes nothing more. A contract sees what was written,
+/// and whether a write failed.
 #[derive(Drop)]
 pub struct ErrorOutput<W: Write + Drop> {
     inner: W,
@@ -31,7 +31,7 @@ impl<W: Write + Drop> Model for ErrorOutput<W> {
 }
 
 impl<W: Write + Drop> ErrorOutput<W> {
-    /// Faults are reported to this writer, at which no write has failed.
+    /// Reports faults to this writer.
     pub fn new(inner: W) -> ErrorOutput<W>
         ensures { result ≡ record { contents = W.contents inner; has_failed = false } }
     {
@@ -48,28 +48,27 @@ impl<W: Write + Drop> ErrorOutput<W> {
         self.has_failed
     }
 
-    /// Writes a text. If a write fails, a prefix of it went out; if one failed before, nothing
-    /// does.
+    /// Writes a text. If a write fails, a prefix of the text was written; after that, nothing is.
     pub fn write_text(&mut self, text: &[u8])
-        ensures { Tells text.now self.old self.new }
+        ensures { Reports text.now self.old self.new }
     {
         if !self.has_failed && !text.is_empty() {
             self.has_failed = write_text(text, &mut self.inner).is_err();
         }
     }
 
-    /// Writes the line of a fault: `aclctl: `, its words, and a newline.
+    /// Writes a fault's line: `aclctl: `, its words, and a newline.
     pub fn write_line(&mut self, words: &str)
-        ensures { Tells (line_of_words words.now) self.old self.new }
+        ensures { Reports (line_of_words words.now) self.old self.new }
     {
         self.write_text(b"aclctl: ");
         self.write_text(words.as_bytes());
         self.write_text(b"\n");
     }
 
-    /// Writes the line of a fault whose words come in two parts.
+    /// Writes a fault's line, whose words come in two parts.
     pub fn write_pair(&mut self, words: &str, more: &str)
-        ensures { Tells (line_of_words (words.now ++ more.now)) self.old self.new }
+        ensures { Reports (line_of_words (words.now ++ more.now)) self.old self.new }
     {
         self.write_text(b"aclctl: ");
         self.write_text(words.as_bytes());
@@ -77,9 +76,9 @@ impl<W: Write + Drop> ErrorOutput<W> {
         self.write_text(b"\n");
     }
 
-    /// Writes the line of a fault whose words have a name among them, and a reason after it.
+    /// Writes a fault's line: its words, the name that it is about, and a reason.
     pub fn write_named(&mut self, words: &str, name: &str, reason: &str)
-        ensures { Tells (line_of_words (words.now ++ name.now ++ reason.now)) self.old self.new }
+        ensures { Reports (line_of_words (words.now ++ name.now ++ reason.now)) self.old self.new }
     {
         self.write_text(b"aclctl: ");
         self.write_text(words.as_bytes());
@@ -90,7 +89,7 @@ impl<W: Write + Drop> ErrorOutput<W> {
 
     /// Writes the number of a line, if there is one.
     fn write_number(&mut self, line: Option<usize>)
-        ensures { Tells (line_words line) self.old self.new }
+        ensures { Reports (line_words line) self.old self.new }
     {
         if let Some(line) = line {
             self.write_text(b":");
@@ -98,18 +97,18 @@ impl<W: Write + Drop> ErrorOutput<W> {
         }
     }
 
-    /// Writes bytes as they are shown: those that aren't printable by their octal digits.
+    /// Writes bytes, those that aren't printable as octal digits.
     fn write_escaped(&mut self, text: &[u8])
-        ensures { Tells (shown text.now) self.old self.new }
+        ensures { Reports (shown text.now) self.old self.new }
     {
         for byte in shown_front(text) {
             self.write_byte(*byte);
         }
     }
 
-    /// Writes a byte as it is shown.
+    /// Writes a byte, as octal digits if it isn't printable.
     fn write_byte(&mut self, byte: u8)
-        ensures { Tells (shown_byte byte) self.old self.new }
+        ensures { Reports (shown_byte byte) self.old self.new }
     {
         if is_printable(byte) {
             self.write_text(&[byte]);
@@ -118,9 +117,9 @@ impl<W: Write + Drop> ErrorOutput<W> {
         }
     }
 
-    /// Writes bytes that are at fault, if some are.
+    /// Writes the bytes at fault, if there are any.
     fn write_faulty(&mut self, text: Option<&[u8]>)
-        ensures { Tells (text_words (option_map (λ text. text.now) text.entry)) self.old self.new }
+        ensures { Reports (text_words (option_map (λ text. text.now) text.entry)) self.old self.new }
     {
         if let Some(text) = text {
             self.write_text(b": ");
@@ -128,7 +127,7 @@ impl<W: Write + Drop> ErrorOutput<W> {
         }
     }
 
-    /// Writes the line of what is refused, whose name may have hyphens in front:
+    /// Writes the line about something that is refused, whose name may have hyphens in front:
     /// `aclctl: NAME:LINE: WORD: TEXT`.
     pub(crate) fn write_refused(
         &mut self,
@@ -138,7 +137,7 @@ impl<W: Write + Drop> ErrorOutput<W> {
         word: &str,
         text: Option<&[u8]>,
     )
-        ensures { Tells (line_of_words (refused_words (hyphens.now ++ name.now) line word.now
+        ensures { Reports (line_of_words (refused_words (hyphens.now ++ name.now) line word.now
             (option_map (λ text. text.now) text.entry))) self.old self.new }
     {
         self.write_text(b"aclctl: ");
@@ -151,8 +150,8 @@ impl<W: Write + Drop> ErrorOutput<W> {
         self.write_text(b"\n");
     }
 
-    /// Writes how a value is displayed, of which nothing is promised: the text of the parser of
-    /// command lines.
+    /// Writes a value as it is displayed, such as the parser's own text. No clause says what is
+    /// written.
     pub(crate) fn write_displayed<D: Display + Drop>(&mut self, value: D) {
         if !self.has_failed {
             self.has_failed = write!(self.inner, "{value}").is_err();

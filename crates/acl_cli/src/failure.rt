@@ -1,6 +1,6 @@
-//! Why a command gives no answer, or not all of it.
+//! Why a command has no answer, or only part of it.
 ghost use Rattle.std.specs.Prelude.{◌≡◌, IfSome};
-ghost use Rattle.acl_cli.specs.ErrorOutput.{Tells};
+ghost use Rattle.acl_cli.specs.ErrorOutput.{Reports};
 ghost use Rattle.acl_cli.specs.Failures.{line_of, status_of};
 
 use crate::{ErrorOutput, FieldFault, Malformed, Misuse, Place, Reason, Refusal, RunFault};
@@ -8,29 +8,30 @@ use clap::error::ErrorKind;
 use std::alloc::{AllocError, AllocFailed};
 use std::io::{self, Write};
 
-/// Why a command gives no answer, or not all of it: all faults that the program tells.
+/// Why a command has no answer, or only part of it: all faults that the program reports.
 #[derive(Debug, Drop)]
 pub enum Failure<'a> {
-    /// The parser of command lines refuses the words, or was asked for help.
+    /// The parser refuses the words, or they ask it for help.
     Usage(clap::Error),
-    /// The words are wrong in a way that the parser doesn't know.
+    /// The words are wrong in a way that the parser doesn't check.
     Misuse(Misuse),
-    /// A field is malformed, and where it stands isn't told.
+    /// A field is malformed; its place isn't reported.
     Field(FieldFault),
-    /// A field is malformed.
+    /// A field is malformed; its place is reported.
     Malformed(Malformed<'a>),
-    /// The file of this name can't be opened or read, or it is too long. Nothing was written.
+    /// The file of this name can't be opened or read, or is too long. Nothing was written.
     CannotRead(&'a str, Reason),
-    /// What a file has, or what a command would answer, is refused. Nothing was written.
+    /// A file's content, or what a command would write, is refused. Nothing was written.
     Refused(Refusal<'a>),
-    /// What has this name failed while it was read, and part of the answer may be written.
+    /// Reading the input of this name failed, when part of the answer may have been written.
     Unread(&'a str),
-    /// Something lacks.
+    /// Memory, a thread or the output is lacking.
     Lacks(RunFault),
 }
 
 impl<'a> Failure<'a> {
-    /// The exit status: 1 if something is malformed, 2 for wrong usage, 3 if something lacks.
+    /// The exit status: 1 if something is malformed or can't be read, 2 for wrong usage, 3 if
+    /// something is lacking.
     pub fn status(&self) -> u8
         ensures { result ≡ status_of self.now }
     {
@@ -42,21 +43,21 @@ impl<'a> Failure<'a> {
         }
     }
 
-    /// Writes its line, or the text of the parser.
-    pub fn tell<E: Write + Drop>(&self, err: &mut ErrorOutput<E>)
-        ensures { IfSome (line_of self.now) (λ line. Tells line err.old err.new) }
+    /// Writes the failure's line, or the parser's text.
+    pub fn report<E: Write + Drop>(&self, err: &mut ErrorOutput<E>)
+        ensures { IfSome (line_of self.now) (λ line. Reports line err.old err.new) }
     {
         match self {
             Failure::Usage(error) => err.write_displayed(error),
             Failure::Misuse(misuse) => err.write_line(misuse.words()),
             Failure::Field(fault) => err.write_line(fault.words()),
-            Failure::Malformed(malformed) => malformed.tell(err),
+            Failure::Malformed(malformed) => malformed.report(err),
             Failure::CannotRead(name, reason) => err.write_named(
                 "cannot read ",
                 name,
                 reason.words(),
             ),
-            Failure::Refused(refusal) => refusal.tell(err),
+            Failure::Refused(refusal) => refusal.report(err),
             Failure::Unread(name) => err.write_pair("cannot read ", name),
             Failure::Lacks(lack) => err.write_pair("run: ", lack.words()),
         }
@@ -68,7 +69,7 @@ impl<'a> Failure<'a> {
     ghost use Rattle.acl_cli.specs.Failures.{failure_at, without_place};
     ghost use Rattle.acl_cli.specs.Faults.{place_words};
 
-    /// A failure of the word that stands there: of a malformed field it says where that is.
+    /// Adds the place and the word to the failure of a field; leaves other failures as they are.
     pub fn at(self, place: Place<'a>, word: Option<&'a str>) -> Failure<'a>
         ensures { result ≡ failure_at (place_words place.entry)
             (option_map (λ text. text.now) word.entry) self.entry }
@@ -79,7 +80,7 @@ impl<'a> Failure<'a> {
         }
     }
 
-    /// The failure without where a malformed field stands.
+    /// Drops the place from the failure of a field.
     pub fn without_place(self) -> Failure<'a>
         ensures { result ≡ without_place self.entry }
     {
@@ -163,7 +164,7 @@ impl<'a, T: Drop> From<AllocFailed<T>> for Failure<'a> {
     }
 }
 
-/// Only writing the answer gives one.
+/// Only writing the answer gives an `io::Error`.
 impl<'a> From<io::Error> for Failure<'a> {
     ghost use Rattle.acl_cli.specs.Failures.{failed_write};
 

@@ -1,25 +1,25 @@
-//! Fields that are malformed.
+//! Faults of fields.
 ghost use Rattle.std.specs.Prelude.{◌≡◌};
 
 use acl_posix::AclFault;
 
-/// A field of the words that is malformed.
+/// What is wrong with a field of the words.
 #[derive(Clone, Copy, Debug, PartialEq, Eq)]
 pub enum FieldFault {
-    /// An id is no decimal.
+    /// An id isn't a decimal.
     BadId,
     /// There are more than 32 groups.
     TooMany,
     BadPerms,
-    /// A text spells no list.
+    /// A text isn't a list.
     Acl(AclFault),
     /// No style of list has this name.
     BadStyle,
-    /// An entry has an effect neither where it stands nor below.
+    /// An entry has no effect: it is inherit-only and not inherited.
     InheritOnly,
     /// No user has this name.
     UnknownUser,
-    /// uid 0 isn't asked about.
+    /// The user is uid 0, which is never evaluated.
     RootUser,
 }
 

@@ -1,4 +1,4 @@
-//! Ids, as fields write them: in decimal, for the directory has no names.
+//! Ids in fields: decimals, since no names are known.
 ghost use Rattle.std.specs.Prelude.{◌≡◌, ◌≤◌, Some, Ok, IfErr, IfOk, option_map};
 ghost use Rattle.clap.specs.Words.{found_of, rows_of};
 ghost use Rattle.acl_names.specs.declared.limits.TheConstants.{MAX_ID};
@@ -12,10 +12,10 @@ use acl_names::{Gid, MAX_GROUPS_OF_USER, Uid, read_decimal};
 use clap::ArgMatches;
 use std::alloc::Global;
 
-/// How many groups who asks may have: as many as a user of a directory.
+/// How many groups a requester may have: as many as a user of a directory.
 const MAX_GIDS: usize = MAX_GROUPS_OF_USER;
 
-/// The id that a text writes.
+/// The id that a text writes in decimal.
 fn read_id(text: &str) -> Result<u32, FieldFault>
     ensures value { result ≡ id_of text.now }
     ensures in_range { IfOk result (λ id. id ≤ MAX_ID) }
@@ -23,35 +23,35 @@ fn read_id(text: &str) -> Result<u32, FieldFault>
     read_decimal(text.as_bytes()).ok_or(FieldFault::BadId)
 }
 
-/// The user whom a text names by id.
+/// The uid that a text writes in decimal.
 fn read_uid(text: &str) -> Result<Uid, FieldFault>
     ensures { result ≡ id_of text.now }
 {
     Uid::new(read_id(text)?).ok_or(FieldFault::BadId)
 }
 
-/// The group that a text names by id.
+/// The gid that a text writes in decimal.
 fn read_gid(text: &str) -> Result<Gid, FieldFault>
     ensures { result ≡ id_of text.now }
 {
     Gid::new(read_id(text)?).ok_or(FieldFault::BadId)
 }
 
-/// The user whom a word names, which has to be given.
+/// The uid that a word writes. The word must be given.
 fn uid_given(word: Option<&str>) -> Result<Uid, FieldFault>
     ensures { result ≡ given BadId id_of (option_map (λ text. text.now) word.entry) }
 {
     read_uid(word.ok_or(FieldFault::BadId)?)
 }
 
-/// The group that a word names, which has to be given.
+/// The gid that a word writes. The word must be given.
 fn gid_given(word: Option<&str>) -> Result<Gid, FieldFault>
     ensures { result ≡ given BadId id_of (option_map (λ text. text.now) word.entry) }
 {
     read_gid(word.ok_or(FieldFault::BadId)?)
 }
 
-/// The uid in the option of this name.
+/// The uid in the option of this name. Fails with `BadId` if it is malformed.
 pub fn uid_field<'a>(matches: &ArgMatches<'a>, name: &'a str) -> Result<Uid, Malformed<'a>>
     ensures { result ≡ id_in name.entry.now (rows_of (found_of matches.now)) }
 {
@@ -62,7 +62,7 @@ pub fn uid_field<'a>(matches: &ArgMatches<'a>, name: &'a str) -> Result<Uid, Mal
     }
 }
 
-/// The gid in the option of this name.
+/// The gid in the option of this name. Fails with `BadId` if it is malformed.
 pub fn gid_field<'a>(matches: &ArgMatches<'a>, name: &'a str) -> Result<Gid, Malformed<'a>>
     ensures { result ≡ id_in name.entry.now (rows_of (found_of matches.now)) }
 {
@@ -73,7 +73,7 @@ pub fn gid_field<'a>(matches: &ArgMatches<'a>, name: &'a str) -> Result<Gid, Mal
     }
 }
 
-/// The groups between the commas of a text. One that would be too many isn't read.
+/// The gids between a text's commas. It stops before one too many.
 fn read_gids<'a>(alloc: Global, text: &'a str) -> Result<Vec<Gid>, Failure<'a>>
     ensures read { IfOk result (λ gids. gids_of (Some text.entry.now) ≡ Ok gids.items) }
     ensures refused { IfErr result (ExplainsText (gids_of (Some text.entry.now))) }
@@ -89,7 +89,8 @@ fn read_gids<'a>(alloc: Global, text: &'a str) -> Result<Vec<Gid>, Failure<'a>>
     Ok(gids)
 }
 
-/// The groups of who asks; none if the words don't tell.
+/// The requester's groups: the value of `--gids`, or none without the option. Fails with `BadId` or
+/// `TooMany` for the first gid at fault, and if memory runs out.
 pub fn gids_field<'a>(alloc: Global, matches: &ArgMatches<'a>) -> Result<Vec<Gid>, Failure<'a>>
     ensures read { IfOk result (λ gids. gids_in (rows_of (found_of matches.now)) ≡ Ok gids.items) }
     ensures refused { IfErr result (Explains (gids_in (rows_of (found_of matches.now)))) }

@@ -1,4 +1,4 @@
-//! The bytes of a reader, up to a limit.
+//! Reading all of a reader's bytes, up to a limit.
 ghost use Rattle.std.specs.Prelude.{◌≡◌, ◌≢◌, ◌+◌, ◌<◌, ◌≤◌, length, vec_len, IfErr, IfOk, IfSome};
 ghost use Rattle.std.specs.Prelude.{IsErrOf, OnOk};
 ghost use Rattle.std.specs.Io.KnownBytes.{IsAtEnd};
@@ -10,7 +10,7 @@ use std::alloc::Global;
 use std::io::{ErrorKind, Read};
 use thiserror::Error;
 
-/// Why the bytes of a reader were not taken.
+/// Why the bytes weren't read.
 #[derive(Clone, Copy, Debug, PartialEq, Eq, Error)]
 pub enum CapFault {
     /// A read failed.
@@ -19,25 +19,25 @@ pub enum CapFault {
     /// There are more bytes than the limit.
     #[error("too long")]
     TooLong,
-    /// The bytes found no room.
+    /// Memory ran out.
     #[error("memory")]
     Memory,
 }
 
-/// How many bytes one read asks for, at most.
+/// How many bytes one read requests at most.
 const PIECE: usize = 32_768;
 
-/// All the bytes of the reader up to its end, of which there may be at most `cap`. It takes at most
-/// one more. A read that was interrupted is made again.
+/// All bytes of the reader, at most `cap`. It reads at most one more, and repeats interrupted
+/// reads.
 pub fn read_capped<R: Read>(alloc: Global, reader: &mut R, cap: usize) -> Result<Vec<u8>, CapFault>
     ensures capped { IfOk result (λ bytes. vec_len bytes ≤ cap) }
 
-    // Of a reader that tells its bytes.
+    // Of a reader that reports its bytes.
     ensures whole { IfOk result (λ bytes. IfSome (R.remaining reader.old)
-        (λ told. bytes.items ≡ told)) }
+        (λ reported. bytes.items ≡ reported)) }
     ensures ended { OnOk result (IsAtEnd (R.remaining reader.new)) }
     ensures too_long { IsErrOf result CapFault.TooLong
-        → IfSome (R.remaining reader.old) (λ told. cap < length told) }
+        → IfSome (R.remaining reader.old) (λ reported. cap < length reported) }
     ensures bounded { ConsumesAtMost (R.remaining reader.old) (R.remaining reader.new) (cap + 1) }
 {
     let mut bytes = Vec::new(alloc);
@@ -58,7 +58,7 @@ pub fn read_capped<R: Read>(alloc: Global, reader: &mut R, cap: usize) -> Result
     Err(CapFault::Read)
 }
 
-/// The bytes of a reader that has this name, of which there may be at most `cap`.
+/// All bytes of the reader, at most `cap`. Failures name it `name`.
 pub fn read_named<'a, R: Read>(
     alloc: Global,
     name: &'a str,
@@ -67,7 +67,7 @@ pub fn read_named<'a, R: Read>(
 ) -> Result<Vec<u8>, Failure<'a>>
     ensures capped { IfOk result (λ bytes. vec_len bytes ≤ cap) }
     ensures whole { IfOk result (λ bytes. IfSome (R.remaining reader.old)
-        (λ told. bytes.items ≡ told)) }
+        (λ reported. bytes.items ≡ reported)) }
     ensures usage { IfErr result (λ failure. status_of failure ≢ 2) }
     ensures refused { IfErr result (IsReadFailure name.entry.now) }
     ensures unexplained { IfErr result (IsUnexplained (λ refused. refused ≡ name.entry.now)) }
@@ -79,7 +79,7 @@ pub fn read_named<'a, R: Read>(
     }
 }
 
-/// The bytes of the file of this name, of which there may be at most `cap`.
+/// All bytes of the file of this name, at most `cap`.
 pub fn read_file<'a, F: OpenFiles>(
     alloc: Global,
     files: &F,
@@ -88,7 +88,7 @@ pub fn read_file<'a, F: OpenFiles>(
 ) -> Result<Vec<u8>, Failure<'a>>
     ensures capped { IfOk result (λ bytes. vec_len bytes ≤ cap) }
     ensures whole { IfOk result (λ bytes. IfSome (F.bytes_of files.now name.entry.now)
-        (λ told. bytes.items ≡ told)) }
+        (λ reported. bytes.items ≡ reported)) }
     ensures refused { IfErr result (IsReadFailure name.entry.now) }
 {
     match files.open(name) {

@@ -1,5 +1,5 @@
-//! The shell of all commands: words, options and fields, files, what goes out, why a command gives
-//! no answer, and the one function that runs a command and tells how it ended.
+//! The shell of all commands: words, options and fields, files, output, failures, and the function
+//! that runs a command and reports how it ended.
 #![tactic(auto)]
 
 mod command;
@@ -19,9 +19,11 @@ mod perms;
 mod pieces;
 mod reason;
 mod refusal;
+mod reporting;
 mod run_fault;
 pub mod session_files;
-mod telling;
+mod tip;
+mod usage;
 mod word;
 mod words;
 
@@ -39,7 +41,8 @@ pub use perms::{optional_perms_field, perms_field};
 pub use pieces::send_full;
 pub use reason::Reason;
 pub use refusal::Refusal;
+pub use reporting::{Reporting, report_each};
 pub use run_fault::RunFault;
-pub use telling::{Telling, tell_each};
+pub use usage::wrong_usage;
 pub use word::{Given, Word};
 pub use words::{WordsFault, words_of};

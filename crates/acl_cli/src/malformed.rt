@@ -1,26 +1,26 @@
-//! Fields that are malformed, and where they stand.
+//! Malformed fields, with their place in the words.
 ghost use Rattle.std.specs.Prelude.{◌≡◌, [], option_map, unwrap_or};
-ghost use Rattle.acl_cli.specs.ErrorOutput.{Tells, line_of_words};
+ghost use Rattle.acl_cli.specs.ErrorOutput.{Reports, line_of_words};
 ghost use Rattle.acl_cli.specs.Faults.{malformed_words, place_words};
 
 use crate::{ErrorOutput, FieldFault};
 use std::io::Write;
 use std::marker::Model;
 
-/// How words give a field.
+/// Where a field is in the words.
 #[derive(Clone, Copy, Debug)]
 pub enum Place<'a> {
-    /// As the value of the option `--NAME`.
+    /// It is the value of the option `--NAME`.
     Option(&'a str),
-    /// As a word of its own, which help calls so.
+    /// It is a word of its own, which help calls NAME.
     Word(&'a str),
 }
 
-/// A field that is malformed. It is reported as `aclctl: PLACE: FAULT: WORD`.
+/// A malformed field. It is reported as `aclctl: PLACE: FAULT: WORD`.
 #[derive(Debug, Drop)]
 pub struct Malformed<'a> {
     place: Place<'a>,
-    /// What the words give there; nothing if they give nothing.
+    /// The field's text; empty if it isn't given.
     word: &'a str,
     fault: FieldFault,
 }
@@ -38,7 +38,7 @@ impl<'a> Model for Malformed<'a> {
 }
 
 impl<'a> Malformed<'a> {
-    /// A field that stands there, of which the words give this.
+    /// The field at `place`, with the text `word` and this fault.
     pub fn new(place: Place<'a>, word: Option<&'a str>, fault: FieldFault) -> Malformed<'a>
         ensures { result ≡ record {
           place = place_words place.entry;
@@ -61,8 +61,8 @@ impl<'a> Malformed<'a> {
     }
 
     /// Writes its line.
-    pub(crate) fn tell<E: Write + Drop>(&self, err: &mut ErrorOutput<E>)
-        ensures { Tells (line_of_words (malformed_words self.now)) err.old err.new }
+    pub(crate) fn report<E: Write + Drop>(&self, err: &mut ErrorOutput<E>)
+        ensures { Reports (line_of_words (malformed_words self.now)) err.old err.new }
     {
         let (hyphens, name) = match self.place {
             Place::Option(name) => ("--", name),

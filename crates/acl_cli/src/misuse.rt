@@ -1,20 +1,20 @@
-//! Words that the parser takes, and that are wrong all the same.
+//! Words that the parser takes, but that are wrong.
 ghost use Rattle.std.specs.Prelude.{◌≡◌};
 
-/// How words are wrong of which the parser knows nothing. It is wrong usage.
+/// Wrong usage that the parser doesn't check.
 #[derive(Clone, Copy, Debug, PartialEq, Eq)]
 pub enum Misuse {
     /// Standard input is named twice.
     InputTwice,
-    /// There are more sessions than may be served at once.
+    /// There are more sessions than can run at once.
     TooManySessions,
-    /// It is asked who may delete, and what users may do.
+    /// `--delete` is given with `--perms`, `--letters` or `--via`.
     DeleteAndOthers,
-    /// All letters are asked for, and who may do something.
+    /// `--letters` is given with `--perms`.
     LettersAndPerms,
-    /// There is no word, or the first names no command.
+    /// There is no word, or the first isn't a command's name.
     NoCommand,
-    /// A word is not UTF-8.
+    /// A word isn't UTF-8.
     BadWords,
     /// Standard input is longer than words may be.
     TooManyWords,
@@ -30,7 +30,7 @@ impl Misuse {
         match self {
             Misuse::InputTwice => "- is given twice",
             Misuse::TooManySessions => "at most 64 sessions",
-            Misuse::DeleteAndOthers => "--delete excludes --letters and --perms",
+            Misuse::DeleteAndOthers => "--delete excludes --letters, --perms and --via",
             Misuse::LettersAndPerms => "--letters and --perms exclude each other",
             Misuse::NoCommand => "no command",
             Misuse::BadWords => "bad words",

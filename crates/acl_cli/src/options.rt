@@ -2,20 +2,20 @@
 
 use crate::word::{Given, Word};
 
-/// The option `--setup`: the file that says who there is.
+/// The option `--setup`: the setup's file.
 pub const SETUP: Word<'static> = Word {
     given: Given::RequiredOption,
     name: "setup",
     value: "FILE",
-    help: "The file that says who there is, and with which root the tree starts",
+    help: "A TOML file: the domain, the umask, the root directory, users and groups",
 };
 
-/// The option `--owner`: whose the file is.
+/// The option `--owner`: the file's owner.
 pub const OWNER: Word<'static> = Word {
     given: Given::RequiredOption,
     name: "owner",
     value: "N",
-    help: "The uid, in decimal, of the file's owner",
+    help: "The uid of the file's owner, in decimal",
 };
 
 /// The option `--group`: the file's group.
@@ -23,30 +23,30 @@ pub const GROUP: Word<'static> = Word {
     given: Given::RequiredOption,
     name: "group",
     value: "N",
-    help: "The gid, in decimal, of the file's group",
+    help: "The gid of the file's group, in decimal",
 };
 
-/// The option `--uid`: who asks.
+/// The option `--uid`: the user who requests access.
 pub const UID: Word<'static> = Word {
     given: Given::RequiredOption,
     name: "uid",
     value: "N",
-    help: "The uid of who asks",
+    help: "The uid of the user who requests access",
 };
 
-/// The option `--gids`: the groups of who asks.
+/// The option `--gids`: the groups of that user.
 pub const GIDS: Word<'static> = Word {
     given: Given::Option,
     name: "gids",
     value: "N,N..",
-    help: "The gids of who asks, at most 32, between commas",
+    help: "The gids of that user's groups, at most 32, with commas between them",
 };
 
-/// What help says of permissions.
+/// The help of `--perms`.
 const PERMS_HELP: &str =
-    "What is asked for: 1 to 3 of r, w, x and -. One that begins with - follows a =, as --perms=-w-";
+    "The permissions requested: 1 to 3 of r, w, x and -. If the first is -, write --perms=-w-";
 
-/// The option `--perms`: what is asked for.
+/// The option `--perms`: the permissions requested.
 pub const PERMS: Word<'static> = Word {
     given: Given::RequiredOption,
     name: "perms",

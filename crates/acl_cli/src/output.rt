@@ -1,12 +1,12 @@
-//! Texts written as a whole, and what went out of them if a write fails.
+//! Writing a text as a whole.
 ghost use Rattle.std.specs.Prelude.{OnOk};
 ghost use Rattle.std.specs.Io.KnownBytes.{Appends};
 ghost use Rattle.acl_cli.specs.Output.{AppendsFront};
 
 use std::io::{self, ErrorKind, Write};
 
-/// Writes all of a text. If a write fails, a prefix of the text went out. A write that was
-/// interrupted is made again.
+/// Writes all of a text, and repeats interrupted writes. If a write fails, a prefix of the text was
+/// written.
 pub fn write_text<W: Write>(text: &[u8], out: &mut W) -> io::Result<()>
     ensures written { OnOk result (Appends (W.contents out.old) (W.contents out.new) text.now) }
     ensures front { AppendsFront (W.contents out.old) (W.contents out.new) text.now }

@@ -1,4 +1,4 @@
-//! Permissions, as fields write them.
+//! Permissions in fields.
 ghost use Rattle.std.specs.Prelude.{◌≡◌, Ok, Err, IfErr, IfOk, option_map};
 ghost use Rattle.clap.specs.Words.{found_of, rows_of};
 ghost use Rattle.acl_posix.specs.Perms.{bits_of};
@@ -9,7 +9,7 @@ use crate::{FieldFault, Malformed, Place};
 use acl_posix::{Perms, read_perms};
 use clap::ArgMatches;
 
-/// The name of the option that asks for permissions.
+/// The name of the option for permissions.
 const PERMS: &str = "perms";
 
 /// The permissions that a text writes.
@@ -33,7 +33,7 @@ fn read_given(word: Option<&str>) -> Result<Option<Perms>, FieldFault>
     }
 }
 
-/// The value of `--perms`, if it is given. It fails with `BadPerms` if that is malformed.
+/// The value of `--perms`, if it is given. Fails with `BadPerms` if it is malformed.
 pub fn optional_perms_field<'a>(matches: &ArgMatches<'a>) -> Result<Option<Perms>, Malformed<'a>>
     ensures read { IfOk result (λ perms. optional_perms_in (rows_of (found_of matches.now))
         ≡ Ok (option_map bits_of perms)) }
@@ -47,7 +47,7 @@ pub fn optional_perms_field<'a>(matches: &ArgMatches<'a>) -> Result<Option<Perms
     }
 }
 
-/// The value of `--perms`, which has to be given. It fails with `BadPerms` if it is malformed.
+/// The value of `--perms`, which must be given. Fails with `BadPerms` if it is malformed.
 pub fn perms_field<'a>(matches: &ArgMatches<'a>) -> Result<Perms, Malformed<'a>>
     ensures read { IfOk result (λ perms. perms_in (rows_of (found_of matches.now))
         ≡ Ok (bits_of perms)) }

@@ -1,4 +1,4 @@
-//! A text that is written piece by piece while it is made.
+//! Writing a text in pieces.
 ghost use Rattle.std.specs.Prelude.{◌≡◌, ◌++◌, ℕ, List, OnErr, OnOk};
 ghost use Rattle.std.specs.Io.KnownBytes.{Appends};
 ghost use Rattle.acl_cli.specs.Output.{AppendsFront};
@@ -9,7 +9,7 @@ use std::io::{self, Write};
 /// How many bytes are kept before they are written.
 const PIECE: usize = 65_536;
 
-/// Writes the text if it has the bytes of a piece, and then it is empty.
+/// Writes the text and empties it, if it has at least the bytes of a piece.
 pub fn send_full<W: Write>(text: &mut Vec<u8>, out: &mut W) -> io::Result<()>
     ensures sent { OnOk result ((sent : List ℕ)
         × Appends (W.contents out.old) (W.contents out.new) sent

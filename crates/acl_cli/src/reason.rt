@@ -1,4 +1,4 @@
-//! Why a file can't be read, where the system says so.
+//! The system's reason why a file can't be read.
 ghost use Rattle.std.specs.Prelude.{◌≡◌};
 ghost use Rattle.acl_cli.specs.Failures.{reason_of, reason_words};
 

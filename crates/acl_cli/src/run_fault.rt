@@ -1,16 +1,16 @@
-//! Why a valid command failed.
+//! What a valid command lacked.
 ghost use Rattle.std.specs.Prelude.{◌≡◌, Some};
 
 use std::alloc::AllocError;
 use std::{fmt, io};
 use thiserror::Error;
 
-/// What a run lacked. It is shown by the words that follow `aclctl: run: ` on the fault line.
+/// What a command lacked. It is reported after `aclctl: run: `.
 #[derive(Clone, Copy, Debug, PartialEq, Eq, Error)]
 pub enum RunFault {
     /// Memory ran out.
     Memory,
-    /// A request was stopped by the gate.
+    /// The gate stopped a request.
     Stopped,
     /// A thread couldn't be started.
     NoThread,

@@ -1,4 +1,4 @@
-//! The files of a setup and of sessions, as the fields of several commands name them.
+//! The files of a setup and of sessions, as several commands name them.
 ghost use Rattle.std.specs.Prelude.{◌≡◌, ◌≢◌, ◌≤◌, All, Contains, IfErr, IfOk, bytes_eq, codes};
 ghost use Rattle.std.specs.Prelude.{false, length, map, option_map};
 ghost use Rattle.clap.specs.Words.{all_of, found_of, rows_of};
@@ -23,22 +23,22 @@ pub fn setup_field<'a>(matches: &ArgMatches<'a>) -> &'a str
     text_field(matches, "setup").unwrap_or("")
 }
 
-/// The names of files that the words give for an option or a word, if they give any.
+/// The names of files that the words give for an option or a word; `None` if they give none.
 pub fn names_field<'m, 'a>(matches: &'m ArgMatches<'a>, name: &str) -> Option<&'m [&'a str]>
     ensures { option_map shown_names result ≡ all_of name.now (rows_of (found_of matches.now)) }
 {
     matches.get_strs(name)
 }
 
-/// How many of the names are that of standard input.
+/// How many of the names are `-`, standard input.
 pub fn count_inputs(names: &[&str]) -> usize
     ensures { result ≡ input_count (map (λ name. name.now) names.now) }
 {
     names.iter().filter(|name| **name == INPUT).count()
 }
 
-/// The bytes of the file of this name, of which there may be at most `cap`. If it can't be read,
-/// the reason isn't reported.
+/// All bytes of the file of this name, at most `cap`. If it can't be read, the failure has no
+/// reason.
 pub fn read_unexplained<'a, F: OpenFiles>(
     alloc: Global,
     files: &F,
@@ -57,8 +57,8 @@ pub fn read_unexplained<'a, F: OpenFiles>(
     }
 }
 
-/// The text of a session: of `-` what `input` has, and else what the file of the name has, which
-/// leaves `input` as it is.
+/// The text of a session: from `input` for `-`, and else from the file of the name, which leaves
+/// `input` as it is.
 fn read_session<'a, F: OpenFiles, I: Read>(
     alloc: Global,
     files: &F,
@@ -81,8 +81,8 @@ fn read_session<'a, F: OpenFiles, I: Read>(
     }
 }
 
-/// The texts of the sessions of these names, read in this order, each of at most `cap` bytes. One
-/// of the names may be `-`, whose text is what `input` has; else nothing of `input` is read.
+/// The texts of the sessions of these names, read in this order, at most `cap` bytes each. One of
+/// the names may be `-`, for `input`; otherwise `input` isn't read.
 pub fn read_sessions<'a, F: OpenFiles, I: Read>(
     alloc: Global,
     files: &F,

@@ -10,17 +10,17 @@ use std::alloc::Global;
 /// How a word is given.
 #[derive(Clone, Copy, Debug, PartialEq, Eq)]
 pub enum Given {
-    /// As `--NAME VALUE`, or not at all.
+    /// As `--NAME VALUE`; optional.
     Option,
     /// As `--NAME VALUE`.
     RequiredOption,
     /// As `--NAME VALUE`, any number of times.
     RepeatedOption,
-    /// As `--NAME VALUE`, or not at all; the value is a number from 1 to this.
+    /// As `--NAME VALUE`, where VALUE is a number from 1 to this; optional.
     CountOption(u64),
-    /// As `--NAME`, or not at all.
+    /// As `--NAME`; optional.
     Flag,
-    /// By itself, or not at all.
+    /// By itself; optional.
     Word,
     /// By itself.
     RequiredWord,
@@ -35,12 +35,12 @@ pub struct Word<'a> {
     pub name: &'a str,
     /// What help calls the value.
     pub value: &'a str,
-    /// What help says of it.
+    /// The word's help.
     pub help: &'a str,
 }
 
 impl<'a> Word<'a> {
-    /// The argument of an option that may be left out.
+    /// The parser's argument for an optional option.
     fn option(&self, alloc: Global) -> Arg<'a>
         ensures rule { rule_of result ≡ optional_option self.now.name.now }
         ensures local { result.global ≡ false }
@@ -51,7 +51,7 @@ impl<'a> Word<'a> {
             .help(self.help)
     }
 
-    /// The argument of a flag.
+    /// The parser's argument for a flag.
     fn flag(&self, alloc: Global) -> Arg<'a>
         ensures rule { rule_of result ≡ flag self.now.name.now }
         ensures local { result.global ≡ false }
@@ -62,7 +62,7 @@ impl<'a> Word<'a> {
             .help(self.help)
     }
 
-    /// The argument of a word that belongs to no option and may be left out.
+    /// The parser's argument for an optional word by itself.
     fn word(&self, alloc: Global) -> Arg<'a>
         ensures rule { rule_of result ≡ optional_word self.now.name.now }
         ensures local { result.global ≡ false }
@@ -72,7 +72,7 @@ impl<'a> Word<'a> {
             .help(self.help)
     }
 
-    /// The argument for the parser.
+    /// The parser's argument.
     pub(crate) fn arg(&self, alloc: Global) -> Arg<'a>
         ensures rule { rule_of result ≡ rule_of_word self.now }
         ensures local { result.global ≡ false }

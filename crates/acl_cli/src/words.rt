@@ -6,19 +6,20 @@ ghost use Rattle.acl_names.specs.Pieces.{lines_of, without_empty_last};
 use std::alloc::Global;
 use thiserror::Error;
 
-/// Why bytes are not the words of a command.
+/// Why bytes aren't the words of a command.
 #[derive(Clone, Copy, Debug, PartialEq, Eq, Error)]
 pub enum WordsFault {
-    /// The bytes are not UTF-8.
+    /// The bytes aren't UTF-8.
     #[error("bad words")]
     BadWords,
-    /// The words found no room.
+    /// Memory ran out.
     #[error("memory")]
     Memory,
 }
 
-/// The lines of a text as words; an empty line is an empty word, and nothing follows a newline at
-/// the end. `BadWords` exactly if the bytes aren't UTF-8, `Memory` if memory runs out.
+/// The lines of a text as words. An empty line is an empty word, and a newline at the end begins no
+/// line. Fails with `BadWords` exactly if the bytes aren't UTF-8, and with `Memory` if memory runs
+/// out.
 pub fn words_of(alloc: Global, bytes: &[u8]) -> Result<Vec<String>, WordsFault>
     ensures lines { IfOk result (λ words. map string_bytes words.items ≡ lines_of bytes.now) }
     ensures bad_words { IsErrOf result WordsFault.BadWords ↔ (¬ (IsUtf8 bytes.now)) }
@@ -33,7 +34,7 @@ pub fn words_of(alloc: Global, bytes: &[u8]) -> Result<Vec<String>, WordsFault>
     Ok(words)
 }
 
-/// Nothing stands after the last newline of a text that ends in one.
+/// Drops the empty word after the last newline.
 fn drop_empty_last(words: &mut Vec<String>)
     ensures { map string_bytes words.new.items
         ≡ without_empty_last (map string_bytes words.old.items) }

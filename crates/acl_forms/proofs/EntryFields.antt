@@ -122,7 +122,7 @@ record IsCut (text : List ℕ) (fields : List (List ℕ)) : Type 0 where
 joined_cut : (first : List ℕ) (fields : List (List ℕ)) → AllByRecursion IsField (first ∷ fields) → IsCut (join_with_byte colon (first ∷ fields)) (first ∷ fields)
 joined_cut first fields are = record { cut = fields_again first fields are; plain = joined_plain first fields are }
 
--- the form of a piece is told by its first and its last field
+-- the form of a piece is reported by its first and its last field
 abbrev pub form_by : List ℕ → List ℕ → Form
 form_by first last = cond (is_type (nfs4.type_of first)) form.Nfs4 (cond (is_type (type_of last)) form.Freebsd form.Posix)
 

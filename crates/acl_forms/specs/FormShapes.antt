@@ -12,12 +12,12 @@ use Rattle.acl_forms.specs.FormText.{FormFields, fields_of}
 use Rattle.acl_forms.specs.Marks.{marks_of, mark_table, perm_table}
 use Rattle.acl_forms.specs.PrintedForm.{type_text}
 
--- this id, or the name of the one who has it
+-- this id, or the name of the user or group that has it
 abbrev pub WritesId : (List ℕ → Option Written) → (List ℕ → Option ℕ) → List ℕ → ℕ → Type 0
 WritesId written_in id_of text id = ((written_in text ≡ Some (Number id)) × (id ≤ MAX_ID))
     ⊎ ((name : List ℕ) × (written_in text ≡ Some (Name name)) × (id_of name ≡ Some id))
 
--- as a directory writes it: a decimal of this id, or the name of the one who has it
+-- as a directory writes it: a decimal of this id, or the name of the user or group that has it
 abbrev pub WritesIdPlainly : (List ℕ → Option ℕ) → List ℕ → ℕ → Type 0
 WritesIdPlainly id_of text id = (decimal_value text ≡ Some id)
     ⊎ ((has_name_shape text ≡ true) × (id_of text ≡ Some id))
@@ -41,11 +41,11 @@ pub record WritesEntry (names : Names) (piece : List ℕ) (ace : Nfsace4) : Type
   pub mask_is : marks_of perm_table fields.perms ≡ Some ace.mask
   pub flags_are : marks_of mark_table fields.flags ≡ Some flags
   pub kind_is : fields.kind ≡ type_text ace.kind
-  -- the flag of a group is kept with a named group, and what says "inherited" nowhere
+  -- the flag of a group is kept with a named group, and that of an inherited entry never
   pub flags_kept : ace.flags ≡ flags_for ace.who (flags ∩ all_flags)
 
--- the piece has the shape of an entry, and this entry is its value: it has an effect where it
--- stands or below
+-- the piece has the shape of an entry, and this entry is its value: it has an effect on the file
+-- itself or on what inherits it
 pub record HasFormShape (names : Names) (piece : List ℕ) (ace : Nfsace4) : Type 0 where
   pub written : WritesEntry names piece ace
   pub has_effect : is_idle ace ≡ false

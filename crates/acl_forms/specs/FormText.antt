@@ -16,7 +16,7 @@ use Rattle.acl_nfs4.specs.declared.who.Who.{Who}
 use Rattle.acl_nfs4.specs.declared.who.Who.TheVariants.{Owner, Group, Everyone}
 use Rattle.acl_forms.specs.Marks.{marks_of, mark_table, perm_table}
 
--- the fields of a piece; a special tag has no name, and flags that are left out are none
+-- the fields of a piece; a special tag has no name, and the flags may be left out
 pub record FormFields : Type 0 where
   pub tag : List ℕ
   pub name : Option (List ℕ)
@@ -28,7 +28,7 @@ pub record FormFields : Type 0 where
 abbrev pub is_named_tag : List ℕ → Bool
 is_named_tag tag = bytes_eq tag (codes "user") || bytes_eq tag (codes "group")
 
--- with a name or with flags, as the tag asks for a name or doesn't
+-- with a name if the tag needs one, and else with flags
 abbrev pub four_fields : Bool → List ℕ → List ℕ → List ℕ → List ℕ → FormFields
 four_fields named tag second perms kind = if named
     then record { tag = tag; name = Some second; perms = perms; flags = []; kind = kind }
@@ -43,7 +43,7 @@ as_fields (tag ∷ name ∷ perms ∷ flags ∷ kind ∷ []) =
     Some (record { tag = tag; name = Some name; perms = perms; flags = flags; kind = kind })
 as_fields _ = None
 
--- three to five, which colons separate, each trimmed
+-- three to five fields, separated by colons, each trimmed
 abbrev pub fields_of : List ℕ → Option FormFields
 fields_of piece = as_fields (trimmed_parts colon piece)
 
@@ -54,14 +54,14 @@ type_of text =
     else (if bytes_eq text (codes "audit") then Some Audit
     else (if bytes_eq text (codes "alarm") then Some Alarm else None)))
 
--- whom a tag means that has no name
+-- the who of a tag without a name
 abbrev pub special_who : List ℕ → Option Who
 special_who tag =
     if bytes_eq tag (codes "owner@") then Some Owner
     else (if bytes_eq tag (codes "group@") then Some Group
     else (if bytes_eq tag (codes "everyone@") then Some Everyone else None))
 
--- whom a tag means with the name behind it
+-- the who of a tag with the name after it
 abbrev pub who_named : Names → List ℕ → List ℕ → Result Who PieceFault
 who_named names tag name =
     if bytes_eq tag (codes "user") then named_who names false name
@@ -71,7 +71,7 @@ abbrev pub who_by : Names → List ℕ → Option (List ℕ) → Result Who Piec
 who_by names tag None = or_fault Syntax (special_who tag)
 who_by names tag (Some name) = who_named names tag name
 
--- what a piece of a text says: an entry, or what is wrong with it
+-- the entry that a piece of a text means, or its fault
 unfoldable pub entry_by : Names → List ℕ → Result Nfsace4 PieceFault
 entry_by names piece = do
   fields ← or_fault Syntax (fields_of piece)

@@ -1,4 +1,4 @@
--- Which form the entries of a text have: that of the first one.
+-- The form of a text's entries: that of the first one.
 use Rattle.std.specs.Prelude.{ℕ, Bool, true, false, List, [], ◌∷◌, Option, Some, None}
 use Rattle.std.specs.Prelude.{if◌then◌else◌}
 use Rattle.acl_names.specs.Bytes.{colon}

@@ -1,4 +1,4 @@
--- The letters of the freebsd form, and texts in which each may stand in any place, and again.
+-- The letters of the freebsd form, and texts in which each may be at any place, and occur again.
 use Rattle.std.specs.Prelude.{ℕ, Bool, ◌==◌, ◌||◌, List, [], ◌∷◌, Option, Some, None}
 use Rattle.std.specs.Prelude.{if◌then◌else◌}
 use Rattle.std.specs.List.{list_all}
@@ -24,7 +24,7 @@ perm_table =
     ∷ record { letter = 111; bit = 0x80000 }
     ∷ record { letter = 115; bit = 0x100000 } ∷ []
 
--- f d i n S F I; the last says that an entry was inherited, and no entry of a list keeps it
+-- f d i n S F I; the last marks an inherited entry, and no entry of a list keeps it
 abbrev pub mark_table : List Letter
 mark_table =
     record { letter = 102; bit = 0x1 }
@@ -35,11 +35,11 @@ mark_table =
     ∷ record { letter = 70; bit = 0x20 }
     ∷ record { letter = 73; bit = 0x80 } ∷ []
 
--- a letter of the table, or a hyphen, which stands for none
+-- a letter of the table, or a hyphen, which means none
 abbrev pub is_mark_of : List Letter → ℕ → Bool
 is_mark_of table byte = (byte == hyphen) || is_letter_of table byte
 
--- the bits whose letters stand in the text, in any order and any number of times, among hyphens
+-- the bits whose letters the text has, in any order and any number of times, among hyphens
 unfoldable pub marks_of : List Letter → List ℕ → Option ℕ
 marks_of table text = if list_all (is_mark_of table) text
     then Some (bits_of_rows (rows_in table text)) else None

@@ -47,7 +47,7 @@ tag_by user group (NamedGroup gid) = codes "group:" ++ group gid
 abbrev pub tag_text : Known → Who → List ℕ
 tag_text known = tag_by (id_text (user_name known)) (id_text (group_name known))
 
--- the flags but for that of a group, which the tag says
+-- the flags but for that of a group, which the tag shows
 abbrev pub marks_of_flags : ℕ → ℕ
 marks_of_flags flags = flags ∩ 0x3F
 

@@ -1,4 +1,5 @@
--- How entries are printed with their ids in decimal, by which they are read whoever there is.
+-- Printing entries with decimal ids, which are read as themselves whatever users and groups there
+-- are.
 use Rattle.std.specs.Prelude.{ℕ, List, decimal}
 use Rattle.acl_nfs4.specs.Ace.{Nfsace4}
 use Rattle.acl_nfs4.specs.declared.who.Who.{Who}

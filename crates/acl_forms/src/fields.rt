@@ -6,8 +6,7 @@ ghost use Rattle.acl_forms.specs.FormViews.{view_fields};
 
 use acl_names::{Parts, trim_blanks};
 
-/// `tag:perms:flags:type`, with a name behind the tag if it asks for one; flags that are left out
-/// are none.
+/// `tag:perms:flags:type`, with a name after the tag if it needs one; the flags may be left out.
 #[derive(Clone, Copy, Debug)]
 pub(crate) struct FormFields<'a> {
     pub tag: &'a [u8],
@@ -54,7 +53,7 @@ pub(crate) fn read_fields(piece: &[u8]) -> Option<FormFields<'_>>
     }
 }
 
-/// Four fields: with a name or with flags, as the tag asks for a name or doesn't.
+/// Four fields: they have a name if the tag needs one, and else flags.
 fn four_fields<'a>(
     tag: &'a [u8],
     second: &'a [u8],

@@ -1,4 +1,4 @@
-//! Which form the entries of a text have.
+//! The form of a text's entries.
 
 ghost use Rattle.std.specs.Prelude.{◌≡◌};
 ghost use Rattle.acl_nfs4.specs.AceText as nfs4;
@@ -19,8 +19,8 @@ pub enum Form {
     Freebsd,
 }
 
-/// The form of the first entry: a first field of `A`, `D`, `U` or `L` is that of `Nfs4`, and a last
-/// one of `allow`, `deny`, `audit` or `alarm` of `Freebsd`; any other, and no entry, is `Posix`.
+/// The form of the first entry: `Nfs4` if its first field is `A`, `D`, `U` or `L`, `Freebsd` if its
+/// last is `allow`, `deny`, `audit` or `alarm`, and else `Posix`, also without an entry.
 pub fn form_of(text: &[u8]) -> Form
     ensures { result ≡ form_of text.now }
 {
@@ -54,7 +54,7 @@ fn is_nfs4_type(text: &[u8]) -> bool
     matches!(text, b"A" | b"D" | b"U" | b"L")
 }
 
-/// The last of the fields, or the one before them if there are none.
+/// The last of the fields; `first` if there are none.
 fn last_of<'a>(first: &'a [u8], fields: Parts<'a>) -> &'a [u8]
     ensures { result.now ≡ last_or first.now fields.entry }
 {

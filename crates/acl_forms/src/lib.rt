@@ -1,5 +1,5 @@
-//! The forms in which tools print NFSv4 access control lists: which form a text has, and the form
-//! of FreeBSD and libarchive, `tag:perms:flags:type`.
+//! The forms in which tools print NFSv4 access control lists: recognising a text's form, and the
+//! form of FreeBSD and libarchive, `tag:perms:flags:type`.
 #![tactic(auto)]
 
 mod fields;

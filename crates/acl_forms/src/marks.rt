@@ -1,5 +1,5 @@
-//! Texts of letters among hyphens, each in any place and any number of times, and how they are
-//! printed.
+//! Texts of letters among hyphens, each letter at any place and any number of times, and how they
+//! are printed.
 
 ghost use Rattle.std.specs.Prelude.{◌≡◌, ◌==◌, option_map};
 ghost use Rattle.std.specs.List.{list_all, list_any};
@@ -76,7 +76,7 @@ const PERM_TABLE: [Letter; 14] = [
     },
 ];
 
-/// The flags, in the order in which they are printed; the last is read and kept nowhere.
+/// The flags, in the order in which they are printed; the last is read and not kept.
 const MARK_TABLE: [Letter; 7] = [
     Letter {
         letter: b'f',
@@ -108,7 +108,7 @@ const MARK_TABLE: [Letter; 7] = [
     },
 ];
 
-/// The mask whose letters stand in the text.
+/// The mask whose letters the text has.
 pub(crate) fn read_perms(text: &[u8]) -> Option<Mask>
     ensures { option_map mask_bits result ≡ marks_of perm_table text.now }
 {
@@ -118,7 +118,7 @@ pub(crate) fn read_perms(text: &[u8]) -> Option<Mask>
     }
 }
 
-/// The flags whose letters stand in the text.
+/// The flags whose letters the text has.
 pub(crate) fn read_flags(text: &[u8]) -> Option<Flags>
     ensures { option_map flag_bits result ≡ marks_of mark_table text.now }
 {
@@ -128,7 +128,7 @@ pub(crate) fn read_flags(text: &[u8]) -> Option<Flags>
     }
 }
 
-/// The bits whose letters stand in the text, which has nothing but letters and hyphens.
+/// The bits whose letters the text has; `None` if it has anything but letters and hyphens.
 #[tactic(auto, unfolding(crate::specs::Marks::marks_of))]
 fn read_marks(table: &[Letter], text: &[u8]) -> Option<u32>
     ensures { result ≡ marks_of table.now text.now }
@@ -158,7 +158,7 @@ fn is_letter_of(table: &[Letter], byte: u8) -> bool
     table.iter().any(|row| row.letter == byte)
 }
 
-/// The bits of the rows whose letters stand in the text.
+/// The bits of the rows whose letters the text has.
 fn bits_in(table: &[Letter], text: &[u8]) -> u32
     ensures { result ≡ bits_of_rows (rows_in table.now text.now) }
 {
@@ -183,14 +183,14 @@ fn stands_in(letter: u8, text: &[u8]) -> bool
     text.iter().any(|byte| *byte == letter)
 }
 
-/// Appends the mask's letters. If memory runs out, what was there stays.
+/// Appends the mask's letters. Fails only if memory runs out; what `out` held stays in front.
 pub fn push_perms(places: Places, mask: Mask, out: &mut Vec<u8>) -> Result<(), AllocError>
     ensures { PushesInRoom (marks_text places perm_table (mask_bits mask)) result out.old out.new }
 {
     push_marks(places, &PERM_TABLE, mask.bits(), out)
 }
 
-/// Appends the letters of the flags, but for that of a group.
+/// Appends the letters of the flags, except that of a group.
 pub(crate) fn push_flags(places: Places, flags: Flags, out: &mut Vec<u8>) -> Result<(), AllocError>
     ensures { PushesInRoom (marks_text places mark_table (marks_of_flags (flag_bits flags))) result
         out.old out.new }
@@ -198,7 +198,7 @@ pub(crate) fn push_flags(places: Places, flags: Flags, out: &mut Vec<u8>) -> Res
     push_marks(places, &MARK_TABLE, u32::from(flags.bits() & 0x3F), out)
 }
 
-/// Appends the letters of the bits that are set, alone or in a place for each.
+/// Appends the letters of the bits that are set, alone or each at a place of its own.
 fn push_marks(
     places: Places,
     table: &[Letter],

@@ -26,11 +26,13 @@ use std::alloc::AllocError;
 pub enum Places {
     /// The letters alone, as in `owner@:rw::allow`.
     Compact,
-    /// A place for each, with hyphens in the others, as in `owner@:rw------------:-------:allow`.
+    /// Each at a place of its own, with hyphens at the others, as in
+    /// `owner@:rw------------:-------:allow`.
     Full,
 }
 
-/// Appends the entries in order, one per line. If memory runs out, `out` is as it was.
+/// Appends the entries in order, one a line. Fails only if memory runs out; then `out` is as it
+/// was.
 pub fn print_entries(
     places: Places,
     acl: &Acl4,
@@ -42,7 +44,7 @@ pub fn print_entries(
     ensures unchanged { OnErr result (out.new.items ≡ out.old.items) }
     ensures room { OnErr result (vec_capacity out.old
         < vec_len out.old + length (entries_text places directory.now acl.now)) }
-    // What is printed is read as these entries.
+    // The text is read as these entries.
     ensures read_again { OnOk result (Spells (entry_by (names_of directory.now)) MAX_ACES
         (entries_text places directory.now acl.now) acl.now) }
 {
@@ -86,8 +88,8 @@ fn push_line(
     Ok(())
 }
 
-/// Appends the entry, without a newline: `tag:perms:flags:type`. If memory runs out, what was there
-/// stays.
+/// Appends the entry, without a newline: `tag:perms:flags:type`. Fails only if memory runs out;
+/// what `out` held stays in front.
 pub fn push_entry(
     places: Places,
     ace: &Ace,
@@ -159,7 +161,7 @@ fn push_tag(who: &Who, directory: &Directory, out: &mut Vec<u8>) -> Result<(), A
     }
 }
 
-/// Appends the tag and the name, or the decimal of an id that has none.
+/// Appends the tag, and the name, or the id in decimal if `name` is `None`.
 fn push_named(tag: &[u8], name: Option<&str>, id: u32, out: &mut Vec<u8>) -> Result<(), AllocError>
     ensures { PushesInRoom (tag.now
         ++ unwrap_or (option_map (λ name. name.now) name.entry) (decimal id)) result out.old

@@ -19,7 +19,7 @@ use acl_names::{PieceReader, ResolveNames, read_list};
 use acl_nfs4::{Ace, AceFault, AceType, Acl4, INLINE_ACES, MAX_ACES, PieceFault, refuse_idle};
 use std::alloc::Global;
 
-/// Reads entries by these names.
+/// Reads entries, and resolves their names by `names`.
 #[derive(Drop)]
 pub struct EntryReader<'a, N: ResolveNames> {
     pub names: &'a N,
@@ -36,18 +36,18 @@ impl<'a, N: ResolveNames> PieceReader for EntryReader<'a, N> {
         read_entry(piece, self.names)
     }
 
-    /// Always none: such entries stand behind blanks, and are read piece by piece.
+    /// Always `None`: such entries have blanks before them, and are read piece by piece.
     fn read_front<'t>(&self, _text: &'t [u8]) -> Option<(Ace, &'t [u8])> {
         None
     }
 }
 
-/// The entry that a piece writes: `tag:perms:flags:type`. The tag is `owner@`, `group@`,
-/// `everyone@`, or `user:` or `group:` and an id or a name as these names write it; perms are
-/// letters of `rwxpdDaARWcCos` and flags letters of `fdinSFI`, in any order, repeated or not, among
-/// hyphens; the flags with their colon may be left out. `I` is read, and kept nowhere.
+/// Reads an entry `tag:perms:flags:type`. The tag is `owner@`, `group@`, `everyone@`, or `user:` or
+/// `group:` and an id or a name, which `names` resolves; perms are letters of `rwxpdDaARWcCos` and
+/// flags letters of `fdinSFI`, in any order, repeated or not, among hyphens; the flags with their
+/// colon may be left out. `I` is read, and not kept.
 ///
-/// `Syntax` comes before `UnknownName`, and that before `InheritOnly`.
+/// Fails with `Syntax`, else with `UnknownName`, else with `InheritOnly`.
 #[tactic(auto, unfolding(crate::specs::FormText::entry_by))]
 pub fn read_entry<N: ResolveNames>(piece: &[u8], names: &N) -> Result<Ace, PieceFault>
     ensures { result ≡ entry_by (N.names names.now) piece.now }
@@ -58,7 +58,7 @@ pub fn read_entry<N: ResolveNames>(piece: &[u8], names: &N) -> Result<Ace, Piece
     }
 }
 
-/// What a piece of these fields says.
+/// The entry that a piece with these fields means, or its fault.
 #[tactic(auto, unfolding(crate::specs::FormText::entry_by))]
 fn entry_of_fields<N: ResolveNames>(names: &N, fields: FormFields<'_>) -> Result<Ace, PieceFault>
     ensures { (piece : List ℕ) → fields_of piece ≡ Some (view_fields fields.entry)
@@ -88,11 +88,11 @@ pub(crate) fn read_type(text: &[u8]) -> Option<AceType>
     }
 }
 
-/// The list that the text spells: entries `tag:perms:flags:type`, which newlines and commas
-/// separate, with blanks round them; `#` begins a comment.
+/// Reads a list: entries `tag:perms:flags:type`, separated by newlines and commas, with blanks
+/// around them; `#` begins a comment.
 ///
-/// The first faulty piece decides, as `read_entry` tells it; a 129th piece is `TooMany` before it
-/// is read. `Memory` comes only if memory runs out.
+/// The first faulty piece decides the fault, as `read_entry` returns it; a 129th piece is `TooMany`
+/// before it is read. `Memory` means that memory ran out.
 pub fn read_entries<N: ResolveNames>(
     alloc: Global,
     text: &[u8],
@@ -101,7 +101,7 @@ pub fn read_entries<N: ResolveNames>(
     ensures read { IfOk result (Spells (entry_by (N.names names.now)) MAX_ACES text.now) }
     ensures fault { IfErr result (IsEntriesFault (N.names names.now) text.now) }
 
-    // What is spelt is read, unless memory runs out.
+    // A text that spells a list is read, unless memory runs out.
     ensures only { (aces : List Nfsace4)
         → Spells (entry_by (N.names names.now)) MAX_ACES text.now aces
         → MatchResult result (λ acl. acl ≡ aces) (λ fault. fault ≡ Memory) }

@@ -1,4 +1,4 @@
-//! Printing entries in the freebsd form with ids in decimal.
+//! Printing entries in the freebsd form with decimal ids.
 
 ghost use Rattle.std.specs.Prelude.{◌++◌, decimal, OnOk};
 ghost use Rattle.acl_names.specs.Pushing.{PushesInRoom};
@@ -11,8 +11,8 @@ use acl_names::push_decimal;
 use acl_nfs4::{Ace, Who};
 use std::alloc::AllocError;
 
-/// Appends the entry, without a newline: `tag:perms:flags:type`, as `push_entry` does, but with its
-/// id in decimal. If memory runs out, what was there stays.
+/// Appends the entry as `push_entry` does, but with a decimal id: `tag:perms:flags:type`, without a
+/// newline. Fails only if memory runs out; what `out` held stays in front.
 pub fn push_short_entry(places: Places, ace: &Ace, out: &mut Vec<u8>) -> Result<(), AllocError>
     ensures printed { PushesInRoom (short_entry places ace.now) result out.old out.new }
     ensures has_id { OnOk result (HasId ace.now.who) }

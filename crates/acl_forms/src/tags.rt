@@ -1,4 +1,4 @@
-//! Whom the tags of entries mean.
+//! The tags of entries.
 
 ghost use Rattle.std.specs.Prelude.{◌≡◌, option_map};
 ghost use Rattle.acl_forms.specs.FormText.{special_who, who_by, who_named};
@@ -6,7 +6,7 @@ ghost use Rattle.acl_forms.specs.FormText.{special_who, who_by, who_named};
 use acl_names::ResolveNames;
 use acl_nfs4::{PieceFault, Who, named_who};
 
-/// Whom the tag means, with the name behind it if there is one.
+/// Whom the tag means, with the name after it if there is one.
 pub(crate) fn read_who<N: ResolveNames>(
     names: &N,
     tag: &[u8],

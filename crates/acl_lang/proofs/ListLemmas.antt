@@ -18,7 +18,7 @@ use Rattle.acl_names.proofs.ReadListLemmas.{read-fault, read-many, read-spelt}
 use Rattle.acl_nfs4.specs.declared.limits.TheConstants.{MAX_ACES}
 use Rattle.acl_lang.specs.Refusals.{Asked, ReadsAs, aces_refusal, acl_line_fault, acl_refusal}
 
--- a call that reads no list refuses the line for what it tells of the text
+-- a call that reads no list refuses the line for what it reports for the text
 pub Reads-acl : {A : Type 0} (spelt : Result A AclFault) (fault : ReadAclFault) → posix.ReadsAs spelt (Err fault) → ReadsAs (map_fault acl_line_fault spelt) (Err (acl_refusal fault))
 Reads-acl spelt (read.Acl fault) is = ap (map_fault acl_line_fault) is
 Reads-acl spelt read.Memory is = tt

@@ -1,4 +1,4 @@
-//! Answers, and how they are printed.
+//! Printing answers.
 
 ghost use Rattle.std.specs.Prelude.{◌≡◌, ◌++◌, OnOk, OnErr};
 ghost use Rattle.acl_names.specs.Pushing.{Pushes};
@@ -13,18 +13,18 @@ use acl_names::{Directory, push_decimal};
 use acl_tree::{Node, Path, Reply};
 use std::alloc::AllocError;
 
-/// A reply with the number of the line that it answers.
+/// A reply, with the number of the line that it answers.
 #[derive(Debug, Drop)]
 pub struct Answer {
     /// The number of the request's line, from 1.
     pub line: u32,
-    /// What the tree answered.
+    /// The tree's reply.
     pub reply: Reply,
 }
 
 /// Appends the answer: the number of its line, and the reply, on one line or, with lists, on
-/// several. It asks for all the room at once, so that `out` grows once at the most. When memory
-/// runs out, `out` is as it was.
+/// several. It reserves all room at once, so that `out` grows once at most. Fails only if memory
+/// runs out; then `out` is as it was.
 pub fn render(answer: &Answer, directory: &Directory, out: &mut Vec<u8>) -> Result<(), AllocError>
     ensures text { OnOk result (out.new.items
         ≡ out.old.items ++ answer_text directory.now answer.now) }
@@ -38,8 +38,9 @@ pub fn render(answer: &Answer, directory: &Directory, out: &mut Vec<u8>) -> Resu
     printed
 }
 
-/// Appends the answer that shows a node at a path, as `render` does of the node's view. No view is
-/// made: nothing is copied but the text. When memory runs out, `out` is as it was.
+/// Appends the answer that shows a node at a path, as `render` does for the node's view, but
+/// without making a view: it copies only the text. Fails only if memory runs out; then `out` is as
+/// it was.
 pub fn render_node(
     line: u32,
     path: &Path,
@@ -60,7 +61,7 @@ pub fn render_node(
     printed
 }
 
-/// Appends the number of a line, and what is shown of a node.
+/// Appends the number of a line, and a node.
 #[tactic(auto, using(acl_names::proofs::Prefixes::printing_steps))]
 fn push_shown_answer(
     line: u32,

@@ -1,4 +1,4 @@
-//! Requests as lines, which are read as these requests again.
+//! Printing requests as lines, from which they are read again.
 
 ghost use Rattle.std.specs.Prelude.{◌≡◌, ◌≤◌, ◌++◌, ◌∷◌, [], codes, decimal, OnOk, OnErr};
 ghost use Rattle.acl_names.specs.Bytes.{space};
@@ -24,12 +24,12 @@ use acl_posix::{Acl, Mode, Perms, push_perms};
 use acl_tree::{Boxed, Path, Request};
 use std::alloc::AllocError;
 
-/// Appends the line that asks for this, without its newline: the words of the command, a space
-/// between each two, with ids in decimal and lists in the short text form. `Bad` has no line, and
-/// nothing is appended. If memory runs out, `out` is as it was.
+/// Appends the request's line, without its newline: the words of the command, with a space between
+/// each two, with ids in decimal and lists in the short text form. Appends nothing for `Bad`, which
+/// has no line. Fails only if memory runs out; then `out` is as it was.
 ///
-/// The law `printed_commands_are_read_again` says that the line is read as this request, if it is
-/// no longer than lines may be.
+/// The law `printed_commands_are_read_again` says that the line is read as this request, if it
+/// isn't longer than lines may be.
 pub fn push_command(request: &Request, out: &mut Vec<u8>) -> Result<(), AllocError>
     ensures text { OnOk result (out.new.items ≡ out.old.items ++ command_text request.now) }
     ensures unchanged { OnErr result (out.new.items ≡ out.old.items) }
@@ -217,7 +217,7 @@ fn push_default(default: &Option<Boxed<Acl>>, out: &mut Vec<u8>) -> Result<(), A
     }
 }
 
-/// Appends the entries; of a list with none a comment, since a line has to say something.
+/// Appends the entries; for a list without any a comment, since the line needs a text.
 fn push_aces(acl: &Acl4, out: &mut Vec<u8>) -> Result<(), AllocError>
     ensures printed { Pushes (aces_field acl.now) result out.old out.new }
     ensures aces { AreAces acl.now }

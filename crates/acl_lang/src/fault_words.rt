@@ -1,4 +1,4 @@
-//! The words by which answers tell faults.
+//! The words by which answers report faults.
 
 ghost use Rattle.std.specs.Prelude.{◌≡◌};
 ghost use Rattle.acl_lang.specs.Printed.{line_fault_word, tree_fault_word};
@@ -20,7 +20,7 @@ pub(crate) fn tree_fault_word(fault: TreeFault) -> &'static [u8]
     }
 }
 
-/// The word by which an answer tells a line's fault.
+/// The word by which an answer reports a line's fault.
 pub fn line_fault_word(fault: LineFault) -> &'static [u8]
     ensures { result.now ≡ line_fault_word fault }
 {

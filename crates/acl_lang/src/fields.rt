@@ -28,7 +28,7 @@ pub(crate) fn read_kind(text: &[u8]) -> Result<Kind, LineFault>
     }
 }
 
-/// The mode that three octal digits write, before which a `0` may stand.
+/// The mode that three octal digits write, with an optional `0` before them.
 pub(crate) fn read_mode(text: &[u8]) -> Result<Mode, LineFault>
     ensures { result ≡ mode_of text.now }
 {
@@ -39,7 +39,7 @@ pub(crate) fn read_mode(text: &[u8]) -> Result<Mode, LineFault>
     Mode::from_octal(digits).ok_or(LineFault::BadMode)
 }
 
-/// The user whom a name or a decimal tells.
+/// The user whom a name or a decimal means.
 pub(crate) fn read_user(directory: &Directory, text: &[u8]) -> Result<Uid, LineFault>
     ensures { result ≡ user_of directory.now text.now }
 {
@@ -59,7 +59,7 @@ pub(crate) fn read_mask(text: &[u8]) -> Result<Mask, LineFault>
     read_letters(text).ok_or(LineFault::BadPerms)
 }
 
-/// The access control list of the posix style that a text spells.
+/// Reads a POSIX access control list from a text.
 pub(crate) fn read_acl(alloc: Global, text: &[u8], directory: &Directory) -> Result<Acl, Refusal>
     ensures { ReadsAs (acl_of directory.now text.now) result }
 {
@@ -81,7 +81,7 @@ pub(crate) fn read_default(
     Ok(Some(Boxed::new(alloc, acl)?))
 }
 
-/// The access control list of the nfs4 style that a text spells.
+/// Reads an NFSv4 access control list from a text.
 pub(crate) fn read_acl4(alloc: Global, text: &[u8], directory: &Directory) -> Result<Acl4, Refusal>
     ensures { ReadsAs (aces_of directory.now text.now) result }
 {

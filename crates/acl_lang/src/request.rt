@@ -1,4 +1,4 @@
-//! The commands.
+//! Reading commands.
 
 ghost use Rattle.acl_lang.specs.Commands.{asked_by, check, check4, chmod, command, create, get};
 ghost use Rattle.acl_lang.specs.Commands.{set, set_access, set_default, set_list, set_nfs4};
@@ -16,7 +16,7 @@ use acl_names::{Directory, split_word};
 use acl_tree::{Boxed, LineFault, Request};
 use std::alloc::Global;
 
-/// What a line asks for that begins with no blank and ends with none.
+/// Reads the request of a line without blanks at its ends.
 pub(crate) fn read_request(
     alloc: Global,
     line: &[u8],

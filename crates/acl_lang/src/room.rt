@@ -1,4 +1,4 @@
-//! How many bytes an answer may have, so that it is printed with one allocation at the most.
+//! How many bytes an answer may have, so that printing it allocates once at most.
 
 ghost use Rattle.std.specs.Prelude.{◌≤◌};
 
@@ -8,24 +8,25 @@ use acl_nfs4::{Acl4, MAX_ACES};
 use acl_posix::{Acl, MAX_DEFAULT_LINE, MAX_ENTRIES};
 use acl_tree::{MAX_PATH_LEN, NodeAcl, Reply};
 
-/// The most bytes of an answer of one line: the number of the line, and a fault's code and word.
+/// How many bytes an answer of one line may have: the number of the line, and a fault's code and
+/// word.
 const MAX_SHORT_ANSWER: usize = 40;
 
-/// The most bytes of the line of a view beside its path: the number of the line, words, two names,
-/// and a mode.
+/// How many bytes the line of a view may have without its path: the number of the line, words, two
+/// names, and a mode.
 const MAX_HEAD: usize = 100;
 
-/// The most bytes of an ACE's line beside the domain: a type, flags, a name and letters, with what
-/// stands between them.
+/// How many bytes the line of an ACE may have without the domain: a type, flags, a name and
+/// letters, and what separates them.
 const MAX_ACE_LINE: usize = 60;
 
-/// How many bytes the answer that shows this may have at the most.
+/// How many bytes the answer that shows this node may have.
 pub(crate) fn room_for_shown(shown: &Shown<'_>, directory: &Directory) -> usize {
     let path_len = shown.path.as_bytes().len().min(MAX_PATH_LEN);
     MAX_HEAD + path_len + room_for_acl(shown.acl, directory)
 }
 
-/// How many bytes the answer may have at the most.
+/// How many bytes the answer may have.
 pub(crate) fn room_for(reply: &Reply, directory: &Directory) -> usize {
     match reply {
         Reply::Node(view) => room_for_shown(&Shown::of_view(view), directory),

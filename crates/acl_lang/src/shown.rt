@@ -1,4 +1,4 @@
-//! What an answer shows of a node.
+//! The parts of a node that an answer prints.
 ghost use Rattle.std.specs.Prelude.{◌≡◌};
 ghost use Rattle.acl_tree.specs.Nodes.{view_of};
 
@@ -8,7 +8,7 @@ use acl_posix::Mode;
 use acl_tree::{Node, NodeAcl, Path, View};
 use std::marker::Model;
 
-/// What is shown of a node, of its path and list where they stand. A contract sees the node's view.
+/// References to the parts of a node that an answer prints. A contract sees the node's view.
 #[derive(Drop)]
 pub(crate) struct Shown<'a> {
     pub(crate) path: &'a Path,
@@ -35,7 +35,7 @@ impl<'a> Model for Shown<'a> {
 }
 
 impl<'a> Shown<'a> {
-    /// What a view shows.
+    /// The parts of a view.
     pub(crate) fn of_view(view: &'a View) -> Shown<'a>
         ensures { result ≡ view.now }
     {
@@ -49,7 +49,7 @@ impl<'a> Shown<'a> {
         }
     }
 
-    /// What is shown of the node at a path.
+    /// The parts of the node at a path.
     pub(crate) fn of_node(path: &'a Path, node: &'a Node) -> Shown<'a>
         ensures { result ≡ view_of path.now node.now }
     {

@@ -10,7 +10,7 @@ use Rattle.acl_cli.specs.Output.{AppendsFront}
 use Rattle.acl_cli.specs.SessionFiles.{HasBytes, HaveBytes, input_count, setup_in}
 use Rattle.acl_cli.specs.declared.command.Ending.TheVariants.{Answered}
 use Rattle.acl_cli.specs.declared.failure.Failure.{Failure}
-use Rattle.acl_cli.proofs.TellingLemmas.{Tells-nothing}
+use Rattle.acl_cli.proofs.ReportingLemmas.{Reports-nothing}
 use Rattle.acl_service.specs.RunWords.{CanRun, sessions_in}
 use Rattle.acl_lint.specs.LintAnswer.{AnswersRows, IsLint, lint_meaning}
 
@@ -25,15 +25,15 @@ module _ {I : Type 0} (bytes_of : Text → Option (List ℕ)) (start : Option (L
   abbrev answer : List ℕ → Answer
   answer text = record { text = text; beside = []; ending = Answered }
 
-  abbrev IsTold : List ℕ → Type 0
-  IsTold = IsLint (setup_in rows) setup (sessions_in rows) texts
+  abbrev IsReported : List ℕ → Type 0
+  IsReported = IsLint (setup_in rows) setup (sessions_in rows) texts
 
-  answers : (text : List ℕ) → IsTold text → AnswersRows bytes_of start rows (answer text)
+  answers : (text : List ℕ) → IsReported text → AnswersRows bytes_of start rows (answer text)
   answers text is = record { can_run = can_run; setup = setup; texts = texts; setup_is = setup_is; texts_are = texts_are; answers = is; quiet = refl; whole = refl }
 
-  pub lint_answered : (text : List ℕ) × IsTold text × Appends out out' text → Comes (lint_meaning bytes_of start rows) (Ok Answered) out out' err err input input'
+  pub lint_answered : (text : List ℕ) × IsReported text × Appends out out' text → Comes (lint_meaning bytes_of start rows) (Ok Answered) out out' err err input input'
   lint_answered (text, is, went) = record {
-    answered = record { answer = answer text; is = answers text is; ends = refl; text = went; beside = Tells-nothing err };
+    answered = record { answer = answer text; is = answers text is; ends = refl; text = went; beside = Reports-nothing err };
     fails = tt;
     silent = tt;
     cut = tt;
@@ -41,15 +41,15 @@ module _ {I : Type 0} (bytes_of : Text → Option (List ℕ)) (start : Option (L
     unread = tt;
   }
 
-  pub lint_failed : (failure : Failure) → IsAnswerLack failure → Keeps out out' ⊎ ((text : List ℕ) × IsTold text × AppendsFront out out' text)
+  pub lint_failed : (failure : Failure) → IsAnswerLack failure → Keeps out out' ⊎ ((text : List ℕ) × IsReported text × AppendsFront out out' text)
       → Comes (lint_meaning bytes_of start rows) (Err failure) out out' err err input input'
   lint_failed failure lack cut = record {
     answered = tt;
     fails = inr (can_run, lack);
     silent = λ few. absurd (omega (arith, few, late failure lack));
     cut = ⊎_map (λ kept. (kept, refl))
-        (λ (went : (text : List ℕ) × IsTold text × AppendsFront out out' text).
-        record { answer = answer went.0; is = answers went.0 went.1; text = went.2; said = 0; beside = Tells-nothing err })
+        (λ (went : (text : List ℕ) × IsReported text × AppendsFront out out' text).
+        record { answer = answer went.0; is = answers went.0 went.1; text = went.2; said = 0; beside = Reports-nothing err })
         cut;
     untouched = untouched;
     unread = λ two. absurd (omega (arith, two, late failure lack));

@@ -6,7 +6,7 @@ use Rattle.acl_setup.specs.declared.fault.SetupError.{SetupError}
 use Rattle.acl_setup.specs.declared.fault.SetupError.TheVariants.{NotToml, BadField, Parts, Memory}
 use Rattle.acl_setup.specs.declared.key.Key.{Key}
 use Rattle.acl_setup.specs.declared.key.Key.TheVariants as at
-use Rattle.acl_lint.specs.LintLaws.{TellsAPlace}
+use Rattle.acl_lint.specs.LintLaws.{ReportsAPlace}
 use Rattle.acl_lint.specs.LintText.{place_text, shown_piece}
 use Rattle.acl_lint.specs.Places.{Piece}
 use Rattle.acl_lint.specs.SetupPlace.{key_text, setup_place}
@@ -51,8 +51,8 @@ of_line : (piece : Option Piece) → IsFilled (place_text piece)
 of_line None = tt
 of_line (Some piece) = filled_right (decimal piece.number) space (shown_piece piece.text)
 
-pub tells_a_place : TellsAPlace
-tells_a_place = record {
+pub reports_a_place : ReportsAPlace
+reports_a_place = record {
   of_setup = λ error. not_empty (setup_place error) (of_setup error);
   of_line = λ piece. not_empty (place_text piece) (of_line piece);
 }

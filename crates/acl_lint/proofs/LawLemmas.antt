@@ -1,4 +1,4 @@
--- The faults of lines that a session answers are those that are told.
+-- The faults of lines that a session answers are those that are reported.
 use Rattle.std.proofs.Common.{◌≡◌, ◌∙◌, ◌+◌, ◌++◌, ℕ, Bool, true, false, List, [], ◌∷◌, Some, None, Ok, Err, ap₂, map, refl, sym}
 use Rattle.std.proofs.lemmas.List.{map-append}
 use Rattle.acl_names.specs.Directory.{Known, requester_of}
@@ -24,7 +24,7 @@ use Rattle.acl_lang.specs.declared.line.Line.{Line}
 use Rattle.acl_lang.specs.declared.line.Line.TheVariants.{Nothing, Command}
 use Rattle.acl_lang.specs.declared.text.Numbered.{Numbered}
 use Rattle.acl_service.specs.Runs.{answers_of}
-use Rattle.acl_lint.specs.LintLaws.{TellsWhatIsAnswered, fault_replied, faults_answered, told_of}
+use Rattle.acl_lint.specs.LintLaws.{ReportsWhatIsAnswered, fault_replied, faults_answered, reported_of}
 use Rattle.acl_lint.specs.LintText.{Found, found_from, found_in_read, found_in_request}
 
 -- the reply to a command is none of a faulty line
@@ -67,9 +67,9 @@ module _ (line : ℕ) where
   none_of_translation (Ok node) lists = none_of_lists (lists node)
   none_of_translation (Err fault) lists = refl
 
--- what is told of a request, and what its reply tells
+-- what is reported for a request, and what its reply reports
 of_request : (known : Known) (tree : NodesUnderUmask) (line : ℕ) (bytes : List ℕ) (asked : Request)
-    → map told_of (found_in_request known line bytes asked) ≡ fault_replied line (reply known tree asked)
+    → map reported_of (found_in_request known line bytes asked) ≡ fault_replied line (reply known tree asked)
 of_request known tree line bytes (request.Get path) = sym (none_of_view line (node_at tree path) (view_of path))
 of_request known tree line bytes (request.SetAccess path acl) = sym (none_of_change line (set_access tree path acl))
 of_request known tree line bytes (request.SetDefault path default) = sym (none_of_change line (set_default tree path default))
@@ -86,19 +86,19 @@ of_request known tree line bytes (request.Bad fault) = refl
 
 -- one line's, and those of the lines after it
 answered-next : (known : Known) (tree : NodesUnderUmask) (number : ℕ) (bytes : List ℕ) (more : List Found) (requests : List Numbered)
-    → ((tree : NodesUnderUmask) → map told_of more ≡ faults_answered (answers_of known tree requests))
-    → (read : Line) → map told_of (found_in_read known number bytes read ++ more) ≡ faults_answered (answers_of known tree (numbered_request number read ++ requests))
+    → ((tree : NodesUnderUmask) → map reported_of more ≡ faults_answered (answers_of known tree requests))
+    → (read : Line) → map reported_of (found_in_read known number bytes read ++ more) ≡ faults_answered (answers_of known tree (numbered_request number read ++ requests))
 answered-next known tree number bytes more requests rest Nothing = rest tree
 answered-next known tree number bytes more requests rest (Command asked) =
-    map-append told_of (found_in_request known number bytes asked) more
+    map-append reported_of (found_in_request known number bytes asked) more
     ∙ ap₂ (λ (a b : List (ℕ × LineFault)). a ++ b) (of_request known tree number bytes asked) (rest (next known tree asked))
 
 answered-from : (known : Known) (tree : NodesUnderUmask) (before : ℕ) (lines : List (List ℕ))
-    → map told_of (found_from known before lines) ≡ faults_answered (answers_of known tree (requests_from known before lines))
+    → map reported_of (found_from known before lines) ≡ faults_answered (answers_of known tree (requests_from known before lines))
 answered-from known tree before [] = refl
 answered-from known tree before (line ∷ lines) =
     answered-next known tree (before + 1) line (found_from known (before + 1) lines) (requests_from known (before + 1) lines)
     (λ tree. answered-from known tree (before + 1) lines) (line_of known line)
 
-pub tells_what_is_answered : TellsWhatIsAnswered
-tells_what_is_answered known tree text = answered-from known tree 0 (lines_of text)
+pub reports_what_is_answered : ReportsWhatIsAnswered
+reports_what_is_answered known tree text = answered-from known tree 0 (lines_of text)

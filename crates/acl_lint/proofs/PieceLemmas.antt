@@ -1,4 +1,4 @@
--- Where a line sets a list and has a fault of a piece, the piece that is told is the first that doesn't read, and has that fault.
+-- Where a line sets a list and has a fault of a piece, the piece that is reported is the first that doesn't read, and has that fault.
 use Rattle.std.proofs.Common.{◌≡◌, ◌≢◌, ◌∙◌, ◌+◌, ◌++◌, ◌==◌, ◌&&◌, ℕ, Bool, true, false, cond, List, [], ◌∷◌}
 use Rattle.std.proofs.Common.{Option, Some, None, Result, Ok, Err, ap, ap₂, append_assoc, arith, bytes_eq}
 use Rattle.std.proofs.Common.{codes, drop, is_none, length, refl, subst, sym, take}
@@ -35,7 +35,7 @@ use Rattle.acl_lang.specs.Lines.{line_of_trimmed, request_of}
 use Rattle.acl_lang.specs.Refusals.{Asked, acl_line_fault}
 use Rattle.acl_lang.specs.declared.limits.TheConstants.{MAX_LINE_LEN}
 use Rattle.acl_lang.specs.declared.line.Line.TheVariants.{Nothing, Command}
-use Rattle.acl_lint.specs.LintLaws.{IsFirstAtFault, IsFirstOfFields, TellsThePiece, fault_of, fault_of_piece}
+use Rattle.acl_lint.specs.LintLaws.{IsFirstAtFault, IsFirstOfFields, ReportsThePiece, fault_of, fault_of_piece}
 use Rattle.acl_lint.specs.Places.{Piece, first_unread, is_of_piece, piece_of_trimmed, piece_or, unread_in, unread_of_fields, unread_of_kind}
 
 -- ---- the first text that doesn't read
@@ -169,9 +169,9 @@ module _ (known : Known) (kind text : List ℕ) (fault : LineFault) where
     -- a fault of a piece comes of the pieces
     of_entries : bytes_eq kind (codes "nfs4") ≡ false → entries_read ≡ Err fault → IsSomeAnd (unread_of_kind known kind text) (IsFirstAtFault known kind text fault)
     of_entries posix is =
-        let told : at_most_read TooMany MAX_ENTRIES (λ piece. as_entry (entry_of known piece)) (pieces text) ≡ Err fault =
+        let reported : at_most_read TooMany MAX_ENTRIES (λ piece. as_entry (entry_of known piece)) (pieces text) ≡ Err fault =
         sym (at_most_read-map_fault acl_line_fault (entry_in (entry_of known)) acl.TooMany MAX_ENTRIES (pieces text)) ∙ is in
-        let most = most_fault (entry_of known) as_entry entry_oks entry_errs MAX_ENTRIES (pieces text) fault told (other TooMany refl) in
+        let most = most_fault (entry_of known) as_entry entry_oks entry_errs MAX_ENTRIES (pieces text) fault reported (other TooMany refl) in
         subst (λ (b : Bool). IsSomeAnd (cond b (unread_in (piece_value known) MAX_ACES text) (unread_in (entry_of known) MAX_ENTRIES text)) (IsFirstAtFault known kind text fault))
         (sym posix)
         (first_of_list (entry_of known) as_entry entry_oks entry_errs known kind text fault MAX_ENTRIES (by_kind false posix) _
@@ -285,8 +285,8 @@ module _ (known : Known) (fault : LineFault) (of_piece : is_of_piece fault ≡ t
       of_test true is = cc
       of_test false is = cc
 
-pub tells_the_piece : TellsThePiece
-tells_the_piece known bytes fault is of_piece sets = of_line known fault of_piece (trim bytes) sets (of_test (nat_lt MAX_LINE_LEN (length bytes)) is)
+pub reports_the_piece : ReportsThePiece
+reports_the_piece known bytes fault is of_piece sets = of_line known fault of_piece (trim bytes) sets (of_test (nat_lt MAX_LINE_LEN (length bytes)) is)
   where
     of_test : (b : Bool) → cond b (Command (Bad LineTooLong)) (line_of_trimmed known (trim bytes)) ≡ Command (Bad fault) → line_of_trimmed known (trim bytes) ≡ Command (Bad fault)
     of_test true is = absurd (other known [] [] fault of_piece LineTooLong refl (cc))

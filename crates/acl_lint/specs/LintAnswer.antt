@@ -28,7 +28,7 @@ abbrev pub setup_text : Text → SetupError → List ℕ
 setup_text name error = name ++ codes ": " ++ with_hyphens (setup_error_words error)
     ++ space ∷ setup_place error ++ newline ∷ []
 
--- the setup opens, and that is reported of sessions of these names, with these texts
+-- the setup opens, and that is reported for sessions of these names, with these texts
 pub record IsOfSessions (setup : List ℕ) (names : List Text) (texts : List (Vec ℕ Global))
     (text : List ℕ) : Type 0 where
   pub known : Known
@@ -36,18 +36,18 @@ pub record IsOfSessions (setup : List ℕ) (names : List Text) (texts : List (Ve
   pub opened : Opens setup known tree
   pub is : text ≡ sessions_text known names texts
 
--- the setup of this name is refused, and that is reported of it
+-- the setup of this name is refused, and that is reported for it
 pub record IsOfSetup (name : Text) (setup text : List ℕ) : Type 0 where
   pub error : SetupError
   pub refused : IsRefusedBy setup error
   pub is : text ≡ setup_text name error
 
--- that is reported of the setup of this name, or of the sessions of these names
+-- that is reported for the setup of this name, or of the sessions of these names
 abbrev pub IsLint : Text → List ℕ → List Text → List (Vec ℕ Global) → List ℕ → Type 0
 IsLint name setup names texts text =
     IsOfSessions setup names texts text ⊎ IsOfSetup name setup text
 
--- that is reported of the files that the fields name, wholly, with nothing beside it
+-- that is reported for the files that the fields name, wholly, with nothing beside it
 pub record AnswersRows (bytes_of : Text → Option (List ℕ)) (input : Option (List ℕ))
     (rows : List Row) (answer : Answer) : Type 0 where
   pub can_run : CanRun (sessions_in rows)

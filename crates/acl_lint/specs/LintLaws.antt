@@ -1,4 +1,4 @@
--- What is reported of sessions, beside what `run` answers and what the pieces of a list say.
+-- What is reported for sessions, beside what `run` answers and what the pieces of a list say.
 use Rattle.std.specs.Prelude.{◌≡◌, ◌≢◌, ◌++◌, ◌+◌, ℕ, All, List, [], ◌∷◌, Option, Some, None, Ok}
 use Rattle.std.specs.Prelude.{Err, IsSomeAnd, bytes_eq, codes, if◌then◌else◌, length}
 use Rattle.std.specs.Prelude.{map, true}
@@ -27,8 +27,8 @@ use Rattle.acl_lint.specs.Places.{Piece, is_of_piece, piece_at_fault}
 use Rattle.acl_lint.specs.SetupPlace.{setup_place}
 
 -- the number of a line, and its fault
-abbrev pub told_of : Found → ℕ × LineFault
-told_of found = (found.line, found.fault)
+abbrev pub reported_of : Found → ℕ × LineFault
+reported_of found = (found.line, found.fault)
 
 -- the same of an answer, if it is that the line has a fault
 abbrev pub fault_replied : ℕ → Reply → List (ℕ × LineFault)
@@ -40,9 +40,9 @@ faults_answered = flat_map (λ answer. fault_replied answer.line answer.reply)
 
 -- Of every text, over whatever tree it runs: those lines are reported, with those faults, of which
 -- the session's answers say so, in their order.
-abbrev pub TellsWhatIsAnswered : Type 0
-TellsWhatIsAnswered = (known : Known) (tree : NodesUnderUmask) (text : List ℕ)
-    → map told_of (found_in known text)
+abbrev pub ReportsWhatIsAnswered : Type 0
+ReportsWhatIsAnswered = (known : Known) (tree : NodesUnderUmask) (text : List ℕ)
+    → map reported_of (found_in known text)
     ≡ faults_answered (answers_of known tree (requests_of known text))
 
 -- the fault of a piece of a list of this kind, if it is malformed
@@ -72,14 +72,14 @@ IsFirstOfFields known fields fault =
 
 -- Where a line sets a list, and has a fault that a piece may have, there is a piece at fault: the
 -- first that is malformed, and it has that very fault.
-abbrev pub TellsThePiece : Type 0
-TellsThePiece = (known : Known) (bytes : List ℕ) (fault : LineFault)
+abbrev pub ReportsThePiece : Type 0
+ReportsThePiece = (known : Known) (bytes : List ℕ) (fault : LineFault)
     → line_of known bytes ≡ Command (Bad fault) → is_of_piece fault ≡ true
     → first_word (trim bytes) ≡ codes "set"
     → IsSomeAnd (piece_at_fault known fault bytes)
     (IsFirstOfFields known (after_word (trim bytes)) fault)
 
 -- No place that is reported is empty: of a setup, and of a line.
-pub record TellsAPlace : Type 0 where
+pub record ReportsAPlace : Type 0 where
   pub of_setup : (error : SetupError) → setup_place error ≢ []
   pub of_line : (piece : Option Piece) → place_text piece ≢ []

@@ -1,4 +1,4 @@
--- What is reported of sessions: a line for each fault of a line.
+-- What is reported for sessions: a line for each fault of a line.
 use Rattle.std.specs.Prelude.{ℕ, ◌+◌, List, [], ◌∷◌, ◌++◌, Option, Some, None, Vec, codes, decimal}
 use Rattle.std.specs.List.{flat_map}
 use Rattle.std.specs.declared.alloc.Global.{Global}
@@ -59,7 +59,7 @@ abbrev pub found_text : Text → Found → List ℕ
 found_text name found = name ++ colon ∷ decimal found.line ++ codes ": "
     ++ line_fault_word found.fault ++ space ∷ place_text found.piece ++ newline ∷ []
 
--- what is reported of a session of this name, with this text
+-- what is reported for a session of this name, with this text
 abbrev pub session_text : Known → Text → List ℕ → List ℕ
 session_text known name text = flat_map (found_text name) (found_in known text)
 

@@ -1,4 +1,4 @@
-//! What is reported of the files that the words name.
+//! The report on the files that the words name.
 ghost use Rattle.std.specs.Prelude.{◌≡◌, ◌≤◌, ◌⊎◌, ℕ, All, IfErr, List, OnErr, OnOk, length, map};
 ghost use Rattle.std.specs.Io.KnownBytes.{Appends, Keeps};
 ghost use Rattle.acl_lang.specs.declared.limits.TheConstants.{MAX_TEXT_LEN};
@@ -14,8 +14,7 @@ use acl_setup::{SetupError, read_setup};
 use std::alloc::Global;
 use std::io::Write;
 
-/// Writes what is reported of the setup of this name, or, if it opens, of the sessions of these
-/// names.
+/// Writes the report on the setup of this name, or, if it opens, on the sessions of these names.
 pub(crate) fn write_answer<'n, W: Write>(
     alloc: Global,
     setup: &str,

@@ -1,5 +1,4 @@
-//! The command `lint`, from the words of a command line to what is printed: what is wrong with a
-//! setup or with sessions, and where, before they run.
+//! The command `lint` for setups and sessions: what is wrong with them, and where, before they run.
 #![tactic(auto)]
 
 mod answer;

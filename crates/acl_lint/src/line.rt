@@ -1,4 +1,4 @@
-//! What is reported of a line.
+//! The report on a line.
 ghost use Rattle.std.specs.Prelude.{◌≡◌, ◌++◌, OnOk};
 ghost use Rattle.std.specs.List.{flat_map};
 ghost use Rattle.acl_lint.specs.LintText.{found_in_line, found_text, place_text};
@@ -9,7 +9,7 @@ use acl_names::{Directory, push_decimal};
 use acl_tree::{LineFault, Request};
 use std::alloc::{AllocError, Global};
 
-/// Appends the number and the piece, or that there is none.
+/// Appends the number and the piece, or `-` for none.
 fn push_place(piece: &Option<Piece<'_>>, out: &mut Vec<u8>) -> Result<(), AllocError>
     ensures { OnOk result (out.new.items ≡ out.old.items ++ place_text piece.now) }
 {
@@ -26,7 +26,7 @@ fn push_place(piece: &Option<Piece<'_>>, out: &mut Vec<u8>) -> Result<(), AllocE
     Ok(())
 }
 
-/// Appends the line that tells of a fault.
+/// Appends the line about a fault.
 fn push_found(
     name: &str,
     line: u32,
@@ -48,8 +48,8 @@ fn push_found(
     Ok(())
 }
 
-/// Appends what is reported of a line of the session of this name: one line if it has a fault, and
-/// else nothing. It fails only if memory runs out.
+/// Appends the report on a line of the session of this name: one line if it has a fault, and else
+/// nothing. Fails only if memory runs out.
 pub(crate) fn push_line(
     alloc: Global,
     directory: &Directory,

@@ -8,31 +8,29 @@ use clap::ArgMatches;
 use std::alloc::Global;
 use std::io::{Read, Write};
 
-/// Tells what is wrong with a setup, or with sessions, before they run. The words are those of the
-/// command, its name first: `lint --setup FILE SESSION..`. A SESSION `-` is what `input` has, and
-/// may stand once; without one, nothing of `input` is read. `files` opens the others: the setup
-/// first and then the sessions in their order, each of at most 1,048,576 bytes, and none after one
-/// that can't be read. All are read before anything is reported.
+/// Reports what is wrong with a setup, or with sessions, before they run. The words begin with the
+/// command's name: `lint --setup FILE SESSION..`. A SESSION `-`, which may occur once, is `input`;
+/// without one, `input` isn't read. `files` opens the others: the setup first and then the sessions
+/// in their order, each of at most 1,048,576 bytes, and none after one that can't be read. All are
+/// read before anything is reported.
 ///
-/// Of a setup that is refused one line goes to `out`, `FILE: WORD PLACE`. WORD is the words of the
-/// fault with `-` between them. PLACE is the key at fault as TOML writes it, as `user[2].uid`,
-/// counted from 0; or, of what is no TOML document, `LINE:COLUMN`, both from 1. Nothing is reported
-/// of the sessions then, whose names can't be read without it.
+/// For a refused setup one line goes to `out`, `FILE: WORD PLACE`. WORD is the words of the fault
+/// with `-` between them. PLACE is the key at fault as TOML writes it, as `user[2].uid`, counted
+/// from 0; or, if the setup isn't a TOML document, `LINE:COLUMN`, both from 1. Then nothing is
+/// reported about the sessions, whose names can't be resolved without the setup.
 ///
-/// Else a line goes there for each line of a session of which `run` would answer that it has a
-/// fault, in the order of the sessions and of their lines: `FILE:LINE: WORD PLACE`, where WORD is
-/// the one of that answer. PLACE is the first piece of a list that is malformed, with its number
-/// from 1, if that is the fault, as `3 user:bob:rwz`; an empty piece is reported as `-`. For a
-/// place that there is not there is `-`.
+/// Else `out` gets a line for each line of a session to which `run` would answer with a fault, in
+/// the order of the sessions and of their lines: `FILE:LINE: WORD PLACE`, where WORD is that of the
+/// answer. PLACE is the first malformed piece of a list, with its number from 1, if that is the
+/// fault, as `3 user:bob:rwz`; an empty piece is printed as `-`. Without such a piece PLACE is `-`.
 ///
-/// It is written in pieces of some 64 KiB. What is wrong with the words or the files goes to `err`;
-/// a fault while writing there changes nothing.
+/// It writes in pieces of some 64 KiB. Failures go to `err`; a fault while writing there changes
+/// nothing.
 ///
 /// The exit status is 0 with the answer, whatever it is, and with help; 1 if a file can't be opened
-/// or read or is too long; 2 if the parser of command lines refuses the words, or there are more
-/// than 64 sessions or two of them `-`, before any file is opened; and 3 if memory runs out or
-/// `out` can't be written. At 1 and 2 nothing was written, and at 3 nothing or a prefix of the
-/// answer.
+/// or read or is too long; 2 if the parser refuses the words, or there are more than 64 sessions or
+/// two of them `-`, before any file is opened; and 3 if memory runs out or `out` can't be written.
+/// With 1 and 2 nothing was written, and with 3 nothing or a prefix of the answer.
 #[derive(Clone, Copy)]
 pub struct Lint;
 

@@ -24,7 +24,7 @@ impl<'t> Model for Piece<'t> {
     ghost view = { λ piece. record { number = piece.number; text = piece.text.now } };
 }
 
-/// The first piece of a text that is malformed, of so many as a list may have.
+/// The first malformed piece of a text, out of as many as a list may have.
 fn first_unread<'t, R: PieceReader>(reader: &R, most: u32, text: &'t [u8]) -> Option<Piece<'t>>
     ensures { result ≡ unread_in (R.value_of reader.now) most text.now }
 {
@@ -41,7 +41,7 @@ fn first_unread<'t, R: PieceReader>(reader: &R, most: u32, text: &'t [u8]) -> Op
     None
 }
 
-/// The first malformed piece of the text of a list, by the word for its kind.
+/// The first malformed piece of a list's text; `kind` is the word for its kind.
 fn unread_of_kind<'t>(directory: &Directory, kind: &[u8], text: &'t [u8]) -> Option<Piece<'t>>
     ensures { result ≡ unread_of_kind directory.now kind.now text.now }
 {
@@ -61,7 +61,7 @@ fn unread_of_fields<'t>(directory: &Directory, fields: &'t [u8]) -> Option<Piece
     unread_of_kind(directory, kind, text)
 }
 
-/// Whether it may be the fault of a piece.
+/// Whether a piece can have this fault.
 fn is_of_piece(fault: LineFault) -> bool
     ensures { result ≡ is_of_piece fault }
 {
@@ -86,8 +86,8 @@ fn piece_of_trimmed<'t>(
     }
 }
 
-/// The piece at fault in a line that has this fault, if the line sets a list and the fault is that
-/// of a piece.
+/// The piece at fault in a line with this fault; `None` unless the line sets a list and a piece can
+/// have the fault.
 pub(crate) fn piece_at_fault<'t>(
     directory: &Directory,
     fault: LineFault,

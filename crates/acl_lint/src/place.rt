@@ -1,4 +1,4 @@
-//! Where in a setup a fault is, as it is reported.
+//! Printing the place of a setup's fault.
 ghost use Rattle.std.specs.Prelude.{◌≡◌, ◌++◌, OnOk, decimal};
 ghost use Rattle.acl_lint.specs.SetupPlace.{key_text, setup_place, spot_text};
 
@@ -6,7 +6,7 @@ use acl_setup::{Key, SetupError, Spot};
 use itoa::Buffer;
 use std::alloc::AllocError;
 
-/// Appends an index, what stands before it, and what stands behind it.
+/// Appends an index between two texts.
 fn push_indexed(
     before: &[u8],
     index: usize,
@@ -58,7 +58,7 @@ fn push_spot(spot: Spot, out: &mut Vec<u8>) -> Result<(), AllocError>
     out.extend_from_slice(Buffer::new().format(spot.column).as_bytes())
 }
 
-/// Appends the place of the fault: the spot in a text that is no document, and else the key.
+/// Appends the place of the fault: the spot in a text that isn't a document, and else the key.
 pub(crate) fn push_place(error: SetupError, out: &mut Vec<u8>) -> Result<(), AllocError>
     ensures { OnOk result (out.new.items ≡ out.old.items ++ setup_place error) }
 {

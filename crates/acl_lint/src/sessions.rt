@@ -1,4 +1,4 @@
-//! What is reported of sessions.
+//! The report on sessions.
 ghost use Rattle.std.specs.Prelude.{◌≡◌, ◌≤◌, All, IfErr, OnErr, OnOk, length, map};
 ghost use Rattle.std.specs.Io.KnownBytes.{Appends};
 ghost use Rattle.acl_lang.specs.declared.limits.TheConstants.{MAX_TEXT_LEN};
@@ -12,7 +12,7 @@ use acl_names::{Directory, Parts};
 use std::alloc::Global;
 use std::io::Write;
 
-/// Writes what is reported of the session of this name, with this text, in pieces of some 64 KiB.
+/// Writes the report on the session of this name, with this text, in pieces of some 64 KiB.
 fn write_session<'n, W: Write>(
     alloc: Global,
     directory: &Directory,
@@ -39,8 +39,8 @@ fn write_session<'n, W: Write>(
     Ok(())
 }
 
-/// Writes what is reported of the sessions of these names, with these texts, one after the other.
-/// If memory runs out or a write fails, a prefix of it went out.
+/// Writes the report on the sessions of these names, with these texts, one after the other. If
+/// memory runs out or a write fails, a prefix of it was written.
 pub(crate) fn write_sessions<'n, W: Write>(
     alloc: Global,
     directory: &Directory,

@@ -1,4 +1,4 @@
-//! What is reported of a setup.
+//! The report on a setup.
 ghost use Rattle.std.specs.Prelude.{◌≡◌, ◌++◌, ◌⊎◌, IfErr, IfOk, OnErr, OnOk};
 ghost use Rattle.std.specs.Io.KnownBytes.{Appends, Keeps};
 ghost use Rattle.acl_cli.specs.Output.{AppendsFront};
@@ -21,7 +21,7 @@ fn push_joined(words: &[u8], out: &mut Vec<u8>) -> Result<(), AllocError>
     Ok(())
 }
 
-/// The line that tells of a setup.
+/// The line about a setup.
 fn setup_line(alloc: Global, name: &str, error: SetupError) -> Result<Vec<u8>, AllocError>
     ensures { IfOk result (λ line. line.items ≡ setup_text name.now error) }
 {
@@ -35,8 +35,8 @@ fn setup_line(alloc: Global, name: &str, error: SetupError) -> Result<Vec<u8>, A
     Ok(line)
 }
 
-/// Writes what is reported of the setup of this name, which is refused for this. If memory runs
-/// out, nothing went out, and if a write fails, a prefix of it.
+/// Writes the report on the setup of this name, which is refused with this error. If memory runs
+/// out, nothing was written, and if a write fails, a prefix of it.
 pub(crate) fn write_setup<'n, W: Write>(
     alloc: Global,
     name: &str,

@@ -1,4 +1,4 @@
--- What is told of two listings, by what was seen of them.
+-- What is reported for two listings, by what was seen of them.
 use Rattle.std.proofs.Common.{◌≡◌, ◌∙◌, ◌+◌, ◌-◌, ◌≤◌, ◌<◌, ◌++◌, ◌&&◌, ◌||◌, not, ℕ, suc, Bool, true, false, List, [], ◌∷◌, Option, Some, None, ap, append_assoc, append-nil, arith, get_or, is_none, is_some, length, length-append, map as each, option_map, refl, subst, sym, take}
 use Rattle.std.specs.Prelude.{IfSome}
 use Rattle.std.specs.Bool.{MatchBool}
@@ -8,7 +8,7 @@ use Rattle.std.proofs.lemmas.List.Sums.{fold-append}
 use Rattle.std.proofs.lemmas.List.Folds.{list_any-append}
 use Rattle.std.proofs.Math.Bool.{or-false}
 use Rattle.std.proofs.Math.Seq.{take-append_seam}
-use Rattle.acl_cli.specs.Telling.{LeadsOn, is_empty}
+use Rattle.acl_cli.specs.Reporting.{LeadsOn, is_empty}
 use Rattle.acl_cli.specs.declared.command.Ending.{Ending}
 use Rattle.acl_cli.specs.declared.command.Ending.TheVariants.{Answered}
 use Rattle.acl_listings.specs.Block.{path_of}
@@ -19,8 +19,8 @@ use Rattle.acl_reports.specs.Listed.{closing, ending_of, fault_in, no_blocks, wi
 use Rattle.acl_reports.specs.Paths.{block_for, first_path, lists, or_first}
 use Rattle.acl_reports.specs.Placed.{Placed, in_places, in_places_after}
 use Rattle.acl_reports.specs.declared.tally.Tally.{Tally}
-use Rattle.acl_listing_changes.specs.ChangeSteps.{Appended, AreMet, BeginsLeft, Closing, EndsLeft, HandsOn, Here, IsLast, IsOpening, IsStep, Left, Missing, Opening, SeenValue, TellsLeft, TellsMissing, TellsTold, Told, counted, fault_here, final_tally, left_to_tell, missing_from, nothing_seen, seen_on, told_from}
-use Rattle.acl_listing_changes.specs.Changes.{After, Before, Gone, IsChangeAnswer, IsChangeBegun, Named, Next, OfAfter, Step, TellsEach, TellsIf, TellsNextBy, TellsStep, Wording, apart_by, ending_of_both, fault_after, fault_before, item_of, items_after, items_before, items_of, part_of, steps_of, tally_of, unless_repeated, with_difference}
+use Rattle.acl_listing_changes.specs.ChangeSteps.{Appended, AreMet, BeginsLeft, Closing, EndsLeft, HandsOn, Here, IsLast, IsOpening, IsStep, Left, Missing, Opening, SeenValue, ReportsLeft, ReportsMissing, ReportsReported, Reported, counted, fault_here, final_tally, left_to_report, missing_from, nothing_seen, seen_on, reported_from}
+use Rattle.acl_listing_changes.specs.Changes.{After, Before, Gone, IsChangeAnswer, IsChangeBegun, Named, Next, OfAfter, Step, ReportsEach, ReportsIf, ReportsNextBy, ReportsStep, Wording, apart_by, ending_of_both, fault_after, fault_before, item_of, items_after, items_before, items_of, part_of, steps_of, tally_of, unless_repeated, with_difference}
 use Rattle.acl_listing_changes.specs.Kept.{place_of}
 use Rattle.acl_listing_changes.specs.declared.between.progress.Stage.TheVariants as stage
 use Rattle.acl_listing_changes.proofs.FirstPathLemmas.{first_more}
@@ -29,49 +29,49 @@ use Rattle.acl_listing_changes.proofs.PlacesLemmas.{mark_lists, marks_repeat, me
 use Rattle.acl_listing_changes.proofs.StepsLemmas.{AreLike, all_front, all_on, each_like, front_like, front_none, front_on}
 use Rattle.acl_listing_changes.proofs.SidesLemmas.{some_repeated}
 
--- ---- one step of what is told
+-- ---- one step of what is reported
 
 module _ (wording : Wording) (name : List ℕ) (before : List Block) where
-  pub told_on : (old new : Left) (out out' beside beside' : List ℕ) (is : IsStep wording name before old new out out' beside beside')
-      → LeadsOn (TellsLeft wording name before old) (TellsLeft wording name before new) is.appended.told is.appended.said
-  told_on old new out out' beside beside' is =
-      all_on (TellsTold wording name before) (left_to_tell wording before old) is.step (left_to_tell wording before new) is.hands is.appended.told is.appended.said is.appended.tells
+  pub reported_on : (old new : Left) (out out' beside beside' : List ℕ) (is : IsStep wording name before old new out out' beside beside')
+      → LeadsOn (ReportsLeft wording name before old) (ReportsLeft wording name before new) is.appended.reported is.appended.said
+  reported_on old new out out' beside beside' is =
+      all_on (ReportsReported wording name before) (left_to_report wording before old) is.step (left_to_report wording before new) is.hands is.appended.reported is.appended.said is.appended.reports
 
   pub begun_on : (old new : Left) (out out' beside beside' : List ℕ) (is : IsStep wording name before old new out out' beside beside')
-      → LeadsOn (BeginsLeft wording name before old) (BeginsLeft wording name before new) is.appended.told is.appended.said
+      → LeadsOn (BeginsLeft wording name before old) (BeginsLeft wording name before new) is.appended.reported is.appended.said
   begun_on old new out out' beside beside' is =
-      front_on (TellsTold wording name before) (left_to_tell wording before old) is.step (left_to_tell wording before new) is.hands is.appended.told is.appended.said is.appended.tells
+      front_on (ReportsReported wording name before) (left_to_report wording before old) is.step (left_to_report wording before new) is.hands is.appended.reported is.appended.said is.appended.reports
 
   pub begun_now : (left : Left) → BeginsLeft wording name before left [] []
-  begun_now left = front_none (TellsTold wording name before) (left_to_tell wording before left)
+  begun_now left = front_none (ReportsReported wording name before) (left_to_report wording before left)
 
   -- ---- the next thing is at hand
 
   pub hands_opening : (old new : Left) → old.stage ≡ stage.Opening → new ≡ record old { stage = stage.After }
-      → HandsOn (left_to_tell wording before old) (Opening old.opening) (left_to_tell wording before new)
+      → HandsOn (left_to_report wording before old) (Opening old.opening) (left_to_report wording before new)
   hands_opening old new is is_new =
-      subst (λ (new : Left). HandsOn (left_to_tell wording before old) (Opening old.opening) (left_to_tell wording before new)) (sym is_new)
-      (subst (λ (old : Left). HandsOn (left_to_tell wording before old) (Opening old.opening) (left_to_tell wording before (record old { stage = stage.After })))
+      subst (λ (new : Left). HandsOn (left_to_report wording before old) (Opening old.opening) (left_to_report wording before new)) (sym is_new)
+      (subst (λ (old : Left). HandsOn (left_to_report wording before old) (Opening old.opening) (left_to_report wording before (record old { stage = stage.After })))
       (sym (ap (λ stage. record old { stage = stage }) is)) (by old.coming))
     where
-      by : (coming : Option (List Block)) → HandsOn (option_map (λ blocks. Opening old.opening ∷ told_from wording before old.seen blocks) coming) (Opening old.opening)
-          (option_map (told_from wording before old.seen) coming)
+      by : (coming : Option (List Block)) → HandsOn (option_map (λ blocks. Opening old.opening ∷ reported_from wording before old.seen blocks) coming) (Opening old.opening)
+          (option_map (reported_from wording before old.seen) coming)
       by None = tt
       by (Some blocks) = refl
 
   module _ (seen : SeenValue) where
     hands_here : (block : Block) (coming more : Option (List Block)) → HandsOut coming block more
-        → HandsOn (option_map (told_from wording before seen) coming) (Here seen block) (option_map (told_from wording before (seen_on wording before seen block)) more)
+        → HandsOn (option_map (reported_from wording before seen) coming) (Here seen block) (option_map (reported_from wording before (seen_on wording before seen block)) more)
     hands_here block None more hands = tt
     hands_here block (Some blocks) None hands = absurd hands
-    hands_here block (Some blocks) (Some more) hands = ap (told_from wording before seen) hands
+    hands_here block (Some blocks) (Some more) hands = ap (reported_from wording before seen) hands
 
     hands_end : (coming : Option (List Block)) → IsOver coming
-        → HandsOn (option_map (told_from wording before seen) coming) (Closing seen) (Some (missing_from seen.met 0 (length before - 0)))
+        → HandsOn (option_map (reported_from wording before seen) coming) (Closing seen) (Some (missing_from seen.met 0 (length before - 0)))
     hands_end None over = tt
     hands_end (Some blocks) over =
         let all : length before - 0 ≡ length before = omega arith in
-        ap (told_from wording before seen) over ∙ ap (λ count. Closing seen ∷ missing_from seen.met 0 count) (sym all)
+        ap (reported_from wording before seen) over ∙ ap (λ count. Closing seen ∷ missing_from seen.met 0 count) (sym all)
 
     -- and the blocks are counted
     final_here : (block : Block) (coming more : Option (List Block)) → HandsOut coming block more
@@ -107,26 +107,26 @@ module _ (wording : Wording) (name : List ℕ) (before : List Block) where
     -- of the block at hand, where the block and those to come are these
     pub hands_block : (block : Block) (more : Option (List Block)) → HandsOut old.coming block more
         → new ≡ record old { block = block; coming = more; seen = seen_on wording before old.seen block }
-        → HandsOn (left_to_tell wording before old) (Here old.seen block) (left_to_tell wording before new)
+        → HandsOn (left_to_report wording before old) (Here old.seen block) (left_to_report wording before new)
         × IfSome (final_tally wording before old) (λ tally. final_tally wording before new ≡ Some tally)
     hands_block block more hands is_new =
-        subst (λ (new : Left). HandsOn (left_to_tell wording before old) (Here old.seen block) (left_to_tell wording before new)
+        subst (λ (new : Left). HandsOn (left_to_report wording before old) (Here old.seen block) (left_to_report wording before new)
         × IfSome (final_tally wording before old) (λ tally. final_tally wording before new ≡ Some tally)) (sym is_new)
-        (subst (λ (left : Left). HandsOn (left_to_tell wording before left) (Here left.seen block)
-        (left_to_tell wording before (record left { block = block; coming = more; seen = seen_on wording before left.seen block }))
+        (subst (λ (left : Left). HandsOn (left_to_report wording before left) (Here left.seen block)
+        (left_to_report wording before (record left { block = block; coming = more; seen = seen_on wording before left.seen block }))
         × IfSome (final_tally wording before left)
         (λ tally. final_tally wording before (record left { block = block; coming = more; seen = seen_on wording before left.seen block }) ≡ Some tally)) (sym was_is)
         (hands_here old.seen block old.coming more hands, final_here old.seen block old.coming more hands))
 
     -- and at the end of them
     pub hands_closing : (block : Block) (more : Option (List Block)) → IsOver old.coming → new ≡ record old { block = block; coming = more; stage = stage.Gone 0 }
-        → HandsOn (left_to_tell wording before old) (Closing old.seen) (left_to_tell wording before new)
+        → HandsOn (left_to_report wording before old) (Closing old.seen) (left_to_report wording before new)
         × IfSome (final_tally wording before old) (λ tally. final_tally wording before new ≡ Some tally)
     hands_closing block more over is_new =
-        subst (λ (new : Left). HandsOn (left_to_tell wording before old) (Closing old.seen) (left_to_tell wording before new)
+        subst (λ (new : Left). HandsOn (left_to_report wording before old) (Closing old.seen) (left_to_report wording before new)
         × IfSome (final_tally wording before old) (λ tally. final_tally wording before new ≡ Some tally)) (sym is_new)
-        (subst (λ (left : Left). HandsOn (left_to_tell wording before left) (Closing left.seen)
-        (left_to_tell wording before (record left { block = block; coming = more; stage = stage.Gone 0 }))
+        (subst (λ (left : Left). HandsOn (left_to_report wording before left) (Closing left.seen)
+        (left_to_report wording before (record left { block = block; coming = more; stage = stage.Gone 0 }))
         × IfSome (final_tally wording before left) (λ tally. final_tally wording before (record left { block = block; coming = more; stage = stage.Gone 0 }) ≡ Some tally)) (sym was_is)
         (hands_end old.seen old.coming over, final_end old.seen old.coming over))
 
@@ -138,22 +138,22 @@ module _ (wording : Wording) (name : List ℕ) (before : List Block) where
     at_is = ap (λ stage. record old { stage = stage }) is
 
     pub hands_missing : (new : Left) → place < length before → new ≡ record old { stage = stage.Gone (place + 1) }
-        → HandsOn (left_to_tell wording before old) (Missing old.seen.met place) (left_to_tell wording before new)
+        → HandsOn (left_to_report wording before old) (Missing old.seen.met place) (left_to_report wording before new)
         × IfSome (final_tally wording before old) (λ tally. final_tally wording before new ≡ Some tally)
     hands_missing new within is_new =
         let one : length before - place ≡ suc (length before - (place + 1)) = omega (arith, within) in
-        subst (λ (new : Left). HandsOn (left_to_tell wording before old) (Missing old.seen.met place) (left_to_tell wording before new)
+        subst (λ (new : Left). HandsOn (left_to_report wording before old) (Missing old.seen.met place) (left_to_report wording before new)
         × IfSome (final_tally wording before old) (λ tally. final_tally wording before new ≡ Some tally)) (sym is_new)
-        (subst (λ (left : Left). HandsOn (left_to_tell wording before left) (Missing left.seen.met place) (left_to_tell wording before (record left { stage = stage.Gone (place + 1) }))
+        (subst (λ (left : Left). HandsOn (left_to_report wording before left) (Missing left.seen.met place) (left_to_report wording before (record left { stage = stage.Gone (place + 1) }))
         × IfSome (final_tally wording before left) (λ tally. final_tally wording before (record left { stage = stage.Gone (place + 1) }) ≡ Some tally)) (sym at_is)
         (ap (missing_from old.seen.met place) one, refl))
 
-    -- where no block before is left, nothing more is told
-    pub none_left : length before ≤ place → TellsLeft wording name before old [] []
+    -- where no block before is left, nothing more is reported
+    pub none_left : length before ≤ place → ReportsLeft wording name before old [] []
     none_left past =
         let none : length before - place ≡ 0 = omega (arith, past) in
-        subst (λ (left : Left). TellsLeft wording name before left [] []) (sym at_is)
-        (subst (λ count. TellsEach (TellsTold wording name before) (missing_from old.seen.met place count) [] []) (sym none) (refl, refl))
+        subst (λ (left : Left). ReportsLeft wording name before left [] []) (sym at_is)
+        (subst (λ count. ReportsEach (ReportsReported wording name before) (missing_from old.seen.met place count) [] []) (sym none) (refl, refl))
 
 -- ---- what was seen of the listing after
 
@@ -209,27 +209,27 @@ module _ (wording : Wording) (before : Named) where
       subst (λ all. IsSeen all (fold (seen_on wording before.blocks) seen (block ∷ blocks))) (append_assoc earlier (block ∷ []) blocks)
       (seen_of (earlier ++ block ∷ []) blocks (seen_on wording before.blocks seen block) (seen_more earlier seen is block))
 
-  -- ---- so what is told of them is what the definition says
+  -- ---- so what is reported for them is what the definition says
 
   module _ (after : Named) where
-    abbrev Tells : Told → List ℕ → List ℕ → Type 0
-    Tells = TellsTold wording after.name before.blocks
+    abbrev Reports : Reported → List ℕ → List ℕ → Type 0
+    Reports = ReportsReported wording after.name before.blocks
 
     abbrev Means : Step → List ℕ → List ℕ → Type 0
-    Means = TellsStep wording before after
+    Means = ReportsStep wording before after
 
     module _ (met : List Bool) (are : AreMet before.blocks after.blocks met) where
       -- of one block before
-      gone_there : (earlier : List Block) (here : Block) (rest : List Block) → before.blocks ≡ earlier ++ here ∷ rest → (told said : List ℕ)
-          → Tells (Missing met (length earlier)) told said → Means (Gone (put earlier here)) told said
-      gone_there earlier here rest whole told said tells =
+      gone_there : (earlier : List Block) (here : Block) (rest : List Block) → before.blocks ≡ earlier ++ here ∷ rest → (reported said : List ℕ)
+          → Reports (Missing met (length earlier)) reported said → Means (Gone (put earlier here)) reported said
+      gone_there earlier here rest whole reported said reports =
           let there = stands_there before.blocks earlier here rest whole in
           let stood : take (length earlier) before.blocks ≡ earlier = ap (take (length earlier)) whole ∙ take-append_seam earlier (here ∷ rest) in
-          let found : TellsIf (is_none (fault_before wording (put (take (length earlier) before.blocks) here)) && not (get_or met (length earlier) false)) (wording.IsGone here.text) told said =
-          subst (λ found. IfSome found (λ block. TellsIf (is_none (fault_before wording (put (take (length earlier) before.blocks) block)) && not (get_or met (length earlier) false))
-          (wording.IsGone block.text) told said)) there tells in
-          let placed = subst (λ earlier'. TellsIf (is_none (fault_before wording (put earlier' here)) && not (get_or met (length earlier) false)) (wording.IsGone here.text) told said) stood found in
-          subst (λ b. TellsIf b (wording.IsGone here.text) told said) (by (lists earlier here.text) refl (wording.fault here.text)) placed
+          let found : ReportsIf (is_none (fault_before wording (put (take (length earlier) before.blocks) here)) && not (get_or met (length earlier) false)) (wording.IsGone here.text) reported said =
+          subst (λ found. IfSome found (λ block. ReportsIf (is_none (fault_before wording (put (take (length earlier) before.blocks) block)) && not (get_or met (length earlier) false))
+          (wording.IsGone block.text) reported said)) there reports in
+          let placed = subst (λ earlier'. ReportsIf (is_none (fault_before wording (put earlier' here)) && not (get_or met (length earlier) false)) (wording.IsGone here.text) reported said) stood found in
+          subst (λ b. ReportsIf b (wording.IsGone here.text) reported said) (by (lists earlier here.text) refl (wording.fault here.text)) placed
         where
           within : length earlier < length before.blocks
           within = omega (arith, ap length whole, length-append earlier (here ∷ rest))
@@ -248,21 +248,21 @@ module _ (wording : Wording) (before : Named) where
               ap (λ b. is_none (unless_repeated (lists earlier here.text) fault) && not b)
               (are.each (length earlier) within ∙ mark_lists before.blocks earlier here rest whole is after.blocks)
 
-      like_missing : (earlier rest : List Block) → before.blocks ≡ earlier ++ rest → AreLike Tells Means (missing_from met (length earlier) (length rest)) (each Gone (in_places_after earlier rest))
+      like_missing : (earlier rest : List Block) → before.blocks ≡ earlier ++ rest → AreLike Reports Means (missing_from met (length earlier) (length rest)) (each Gone (in_places_after earlier rest))
       like_missing earlier [] whole = tt
       like_missing earlier (here ∷ rest) whole =
           let next : length earlier + 1 ≡ length (earlier ++ here ∷ []) = omega (arith, length-append earlier (here ∷ [])) in (
             gone_there earlier here rest whole,
-            subst (λ place. AreLike Tells Means (missing_from met place (length rest)) (each Gone (in_places_after (earlier ++ here ∷ []) rest))) (sym next)
+            subst (λ place. AreLike Reports Means (missing_from met place (length rest)) (each Gone (in_places_after (earlier ++ here ∷ []) rest))) (sym next)
                 (like_missing (earlier ++ here ∷ []) rest (whole ∙ sym (append_assoc earlier (here ∷ []) rest))),
           )
 
-    next_there : (earlier : List Block) (seen : SeenValue) → IsSeen earlier seen → (block : Block) → (told said : List ℕ) → Tells (Here seen block) told said → Means (Next (put earlier block)) told said
-    next_there earlier seen is block told said tells =
-        subst (λ fault. TellsNextBy wording after.name (block_for before.blocks block.text) block fault told said) (fault_is earlier seen is block) tells
+    next_there : (earlier : List Block) (seen : SeenValue) → IsSeen earlier seen → (block : Block) → (reported said : List ℕ) → Reports (Here seen block) reported said → Means (Next (put earlier block)) reported said
+    next_there earlier seen is block reported said reports =
+        subst (λ fault. ReportsNextBy wording after.name (block_for before.blocks block.text) block fault reported said) (fault_is earlier seen is block) reports
 
-    end_there : (seen : SeenValue) → IsSeen after.blocks seen → (told said : List ℕ) → Tells (Closing seen) told said → Means After told said
-    end_there seen is told said (none, same) = (
+    end_there : (seen : SeenValue) → IsSeen after.blocks seen → (reported said : List ℕ) → Reports (Closing seen) reported said → Means After reported said
+    end_there seen is reported said (none, same) = (
       none,
       same
           ∙ ap (λ known. apart_by wording known (first_path before.blocks) seen.first ++ closing after.name seen.tally) is.known
@@ -271,7 +271,7 @@ module _ (wording : Wording) (before : Named) where
     )
 
     like_from : (earlier coming : List Block) (seen : SeenValue) → IsSeen earlier seen → after.blocks ≡ earlier ++ coming
-        → AreLike Tells Means (told_from wording before.blocks seen coming) (each Next (in_places_after earlier coming) ++ After ∷ each Gone (in_places before.blocks))
+        → AreLike Reports Means (reported_from wording before.blocks seen coming) (each Next (in_places_after earlier coming) ++ After ∷ each Gone (in_places before.blocks))
     like_from earlier [] seen is whole =
         let all : IsSeen after.blocks seen = subst (λ blocks. IsSeen blocks seen) (sym (append-nil earlier) ∙ sym whole) is in
         (end_there seen all, like_missing seen.met all.met [] before.blocks refl)
@@ -280,42 +280,42 @@ module _ (wording : Wording) (before : Named) where
       like_from (earlier ++ block ∷ []) coming (seen_on wording before.blocks seen block) (seen_more earlier seen is block) (whole ∙ sym (append_assoc earlier (block ∷ []) coming)),
     )
 
-    opening_there : (text : List ℕ) (tally : Tally) → IsOpening wording before text tally → (told said : List ℕ) → Tells (Opening text) told said → Means Before told said
-    opening_there text tally opening told said (none, same) = (
+    opening_there : (text : List ℕ) (tally : Tally) → IsOpening wording before text tally → (reported said : List ℕ) → Reports (Opening text) reported said → Means Before reported said
+    opening_there text tally opening reported said (none, same) = (
       none,
       (opening.faults, opening.faults_are, same ∙ opening.said_is ∙ ap (λ tally. opening.faults ++ closing before.name tally) opening.tally_is),
     )
 
     pub like_steps : (text : List ℕ) (tally : Tally) → IsOpening wording before text tally
-        → AreLike Tells Means (Opening text ∷ told_from wording before.blocks (nothing_seen (length before.blocks)) after.blocks) (steps_of before after)
+        → AreLike Reports Means (Opening text ∷ reported_from wording before.blocks (nothing_seen (length before.blocks)) after.blocks) (steps_of before after)
     like_steps text tally opening = (opening_there text tally opening, like_from [] after.blocks (nothing_seen (length before.blocks)) seen_none refl)
 
     -- what was counted in the end
     pub final_seen : (fold (seen_on wording before.blocks) (nothing_seen (length before.blocks)) after.blocks).tally ≡ tally_of (items_after wording before after)
     final_seen = (seen_of [] after.blocks (nothing_seen (length before.blocks)) seen_none).tally
 
--- what is told next, if anything is
+-- what is reported next, if anything is
 module _ (wording : Wording) (name : List ℕ) (before : List Block) (old new : Left) (out out' beside beside' : List ℕ) where
-  abbrev pub IsToldNext : Type 0
-  IsToldNext = (more : List ℕ) × (others : List ℕ) × (out' ≡ out ++ more) × (beside' ≡ beside ++ others)
-      × LeadsOn (TellsLeft wording name before old) (TellsLeft wording name before new) more others
+  abbrev pub IsReportedNext : Type 0
+  IsReportedNext = (more : List ℕ) × (others : List ℕ) × (out' ≡ out ++ more) × (beside' ≡ beside ++ others)
+      × LeadsOn (ReportsLeft wording name before old) (ReportsLeft wording name before new) more others
       × LeadsOn (BeginsLeft wording name before old) (BeginsLeft wording name before new) more others × BeginsLeft wording name before new [] []
 
-  pub told_next : IsStep wording name before old new out out' beside beside' → IsToldNext
-  told_next is = (
-    is.appended.told,
+  pub reported_next : IsStep wording name before old new out out' beside beside' → IsReportedNext
+  reported_next is = (
+    is.appended.reported,
     is.appended.said,
     is.appended.out_is,
     is.appended.beside_is,
-    told_on wording name before old new out out' beside beside' is,
+    reported_on wording name before old new out out' beside beside' is,
     begun_on wording name before old new out out' beside beside' is,
     begun_now wording name before new,
   )
 
-  pub told_or_last : (some : Bool) → MatchBool some (IsStep wording name before old new out out' beside beside') (IsLast wording name before old new out out' beside beside')
-      → MatchBool some IsToldNext ((out' ≡ out) × (beside' ≡ beside) × TellsLeft wording name before old [] [])
-  told_or_last true is = told_next is
-  told_or_last false is = (is.out_is, is.beside_is, is.none)
+  pub reported_or_last : (some : Bool) → MatchBool some (IsStep wording name before old new out out' beside beside') (IsLast wording name before old new out out' beside beside')
+      → MatchBool some IsReportedNext ((out' ≡ out) × (beside' ≡ beside) × ReportsLeft wording name before old [] [])
+  reported_or_last true is = reported_next is
+  reported_or_last false is = (is.out_is, is.beside_is, is.none)
 
 -- ---- both listings
 
@@ -348,28 +348,28 @@ module _ (wording : Wording) (before : Named) (name opening : List ℕ) (tally :
       by None begins = tt
       by (Some blocks) (count, steps) = record {
         count = count;
-        first = front_like (TellsTold wording name before.blocks) (TellsStep wording before (of_blocks blocks)) (Opening opening ∷ told_from wording before.blocks (nothing_seen (length before.blocks)) blocks) (steps_of before (of_blocks blocks))
+        first = front_like (ReportsReported wording name before.blocks) (ReportsStep wording before (of_blocks blocks)) (Opening opening ∷ reported_from wording before.blocks (nothing_seen (length before.blocks)) blocks) (steps_of before (of_blocks blocks))
             (like_steps wording before (of_blocks blocks) opening tally opened) count text said steps;
       }
 
   -- all of it is a front
-  pub begins_told : (text said : List ℕ) → TellsLeft wording name before.blocks first text said → BeginsLeft wording name before.blocks first text said
-  begins_told text said tells = all_front (TellsTold wording name before.blocks) (left_to_tell wording before.blocks first) text said tells
+  pub begins_reported : (text said : List ℕ) → ReportsLeft wording name before.blocks first text said → BeginsLeft wording name before.blocks first text said
+  begins_reported text said reports = all_front (ReportsReported wording name before.blocks) (left_to_report wording before.blocks first) text said reports
 
-  module _ (text said : List ℕ) (tells : TellsLeft wording name before.blocks first text said) (second ending : Ending) (ends : EndsLeft wording before.blocks first second)
+  module _ (text said : List ℕ) (reports : ReportsLeft wording name before.blocks first text said) (second ending : Ending) (ends : EndsLeft wording before.blocks first second)
       (some : Bool) (some_is : some ≡ not (is_empty text)) (ending_is : ending ≡ with_difference (wording.asks && some) (ending_of_both (ending_of tally) second)) where
     pub answers_changes : OfAfter (IsChangeAnswer wording) before name bytes (record { text = text; beside = said; ending = ending })
     answers_changes =
-        by (blocks_to_come 1 bytes) (subst (λ (left : Left). TellsLeft wording name before.blocks left text said) first_is tells)
+        by (blocks_to_come 1 bytes) (subst (λ (left : Left). ReportsLeft wording name before.blocks left text said) first_is reports)
         (subst (λ (left : Left). EndsLeft wording before.blocks left second) first_is ends)
       where
-        by : (coming : Option (List Block)) → TellsLeft wording name before.blocks (begun_with (nothing_seen (length before.blocks)) coming) text said
+        by : (coming : Option (List Block)) → ReportsLeft wording name before.blocks (begun_with (nothing_seen (length before.blocks)) coming) text said
             → EndsLeft wording before.blocks (begun_with (nothing_seen (length before.blocks)) coming) second
             → IfSome coming (λ blocks. IsChangeAnswer wording before (of_blocks blocks) (record { text = text; beside = said; ending = ending }))
-        by None tells ends = tt
-        by (Some blocks) tells ends = record {
-          each = each_like (TellsTold wording name before.blocks) (TellsStep wording before (of_blocks blocks)) (Opening opening ∷ told_from wording before.blocks (nothing_seen (length before.blocks)) blocks) (steps_of before (of_blocks blocks))
-              (like_steps wording before (of_blocks blocks) opening tally opened) text said tells;
+        by None reports ends = tt
+        by (Some blocks) reports ends = record {
+          each = each_like (ReportsReported wording name before.blocks) (ReportsStep wording before (of_blocks blocks)) (Opening opening ∷ reported_from wording before.blocks (nothing_seen (length before.blocks)) blocks) (steps_of before (of_blocks blocks))
+              (like_steps wording before (of_blocks blocks) opening tally opened) text said reports;
           ending = ending_is
               ∙ ap (λ some. with_difference (wording.asks && some) (ending_of_both (ending_of tally) second)) some_is
               ∙ ap (λ tally. with_difference (wording.asks && not (is_empty text)) (ending_of_both (ending_of tally) second)) opened.tally_is
@@ -377,7 +377,7 @@ module _ (wording : Wording) (before : Named) (name opening : List ℕ) (tally :
               (ends ∙ ap ending_of (final_seen wording before (of_blocks blocks)));
         }
 
--- ---- a step, by what is told in it
+-- ---- a step, by what is reported in it
 
 module _ (wording : Wording) (name : List ℕ) (before : List Block) where
   pub step_opening : (old new : Left) → old.stage ≡ stage.Opening → new ≡ record old { stage = stage.After } → (out beside beside' : List ℕ) → beside' ≡ beside ++ old.opening
@@ -385,13 +385,13 @@ module _ (wording : Wording) (name : List ℕ) (before : List Block) where
   step_opening old new is is_new out beside beside' said = record {
     step = Opening old.opening;
     hands = hands_opening wording name before old new is is_new;
-    appended = record { told = []; said = old.opening; tells = (refl, refl); out_is = sym (append-nil out); beside_is = said };
+    appended = record { reported = []; said = old.opening; reports = (refl, refl); out_is = sym (append-nil out); beside_is = said };
     final = final_opening wording name before old new is is_new;
   }
 
   pub step_here : (old mid new : Left) → old.stage ≡ stage.After → HandsOut old.coming mid.block mid.coming → mid ≡ record old { block = mid.block; coming = mid.coming }
       → new ≡ record mid { seen = seen_on wording before mid.seen mid.block } → (out out' beside beside' : List ℕ)
-      → Appended (TellsTold wording name before (Here mid.seen mid.block)) out out' beside beside' → IsStep wording name before old new out out' beside beside'
+      → Appended (ReportsReported wording name before (Here mid.seen mid.block)) out out' beside beside' → IsStep wording name before old new out out' beside beside'
   step_here old mid new is hands is_mid is_new out out' beside beside' appended =
       let seen : mid.seen ≡ old.seen = ap (λ (left : Left). left.seen) is_mid in
       let whole : new ≡ record old { block = mid.block; coming = mid.coming; seen = seen_on wording before old.seen mid.block } =
@@ -400,7 +400,7 @@ module _ (wording : Wording) (name : List ℕ) (before : List Block) where
       record {
         step = Here old.seen mid.block;
         hands = both.0;
-        appended = subst (λ seen. Appended (TellsTold wording name before (Here seen mid.block)) out out' beside beside') seen appended;
+        appended = subst (λ seen. Appended (ReportsReported wording name before (Here seen mid.block)) out out' beside beside') seen appended;
         final = both.1;
       }
 
@@ -415,9 +415,9 @@ module _ (wording : Wording) (name : List ℕ) (before : List Block) where
         step = Closing old.seen;
         hands = both.0;
         appended = record {
-          told = [];
+          reported = [];
           said = apart_by wording old.seen.known (first_path before) old.seen.first ++ closing name old.seen.tally;
-          tells = (refl, refl);
+          reports = (refl, refl);
           out_is = sym (append-nil out);
           beside_is = said ∙ ap (λ (seen : SeenValue). beside ++ (apart_by wording seen.known (first_path before) seen.first ++ closing name seen.tally)) seen;
         };
@@ -425,7 +425,7 @@ module _ (wording : Wording) (name : List ℕ) (before : List Block) where
       }
 
   pub step_missing : (old new : Left) (place : ℕ) → old.stage ≡ stage.Gone place → place < length before → new ≡ record old { stage = stage.Gone (place + 1) } → (out out' beside beside' : List ℕ)
-      → Appended (TellsMissing wording before old.seen.met place) out out' beside beside' → IsStep wording name before old new out out' beside beside'
+      → Appended (ReportsMissing wording before old.seen.met place) out out' beside beside' → IsStep wording name before old new out out' beside beside'
   step_missing old new place is within is_new out out' beside beside' appended =
       let both = hands_missing wording name before old place is new within is_new in
       record { step = Missing old.seen.met place; hands = both.0; appended = appended; final = both.1 }

@@ -12,7 +12,7 @@ use Rattle.acl_listing_changes.specs.Changes.{Named, OfAfter, OfListings}
 use Rattle.acl_listing_changes.specs.Kept.{AreAll}
 
 module _ {I : Type 0} (meaning : Meaning) (out : Option (List ℕ)) (err : ErrorText) (input : I) where
-  -- nothing was told, for this failure
+  -- nothing was reported, for this failure
   pub comes_refused : (failure : Failure) → meaning.Fails failure → Comes meaning (Err failure) out out err err input input
   comes_refused failure fails = record {
     answered = tt;
@@ -23,7 +23,7 @@ module _ {I : Type 0} (meaning : Meaning) (out : Option (List ℕ)) (err : Error
     unread = λ two. refl;
   }
 
--- what is told of blocks is told of the listing whose blocks they are
+-- what is reported of blocks is reported for the listing whose blocks they are
 module _ (Is : Named → Named → Answer → Type 0) (name : List ℕ) (bytes : Option (List ℕ)) (other : List ℕ) (others : Option (List ℕ)) (blocks : List Block)
     (are : AreAll (blocks_to_come 1 bytes) blocks) where
   of_all : (answer : Answer) → OfAfter Is (record { name = name; blocks = blocks }) other others answer → OfListings Is name bytes other others answer

@@ -1,4 +1,4 @@
--- What `compare` tells is what `impact` tells of files that have the lists.
+-- What `compare` reports is what `impact` reports for files that have the lists.
 use Rattle.std.proofs.Common.{ℕ, List, [], ◌∷◌, Some, None}
 use Rattle.std.specs.List.{AllByRecursion}
 use Rattle.acl_names.specs.Requester.{Identity}

@@ -9,18 +9,18 @@ use Rattle.acl_access.specs.Paths.{printed_path}
 use Rattle.acl_bridge.specs.Files.{File}
 use Rattle.acl_listings.specs.Block.{FileValue, file_by}
 use Rattle.acl_listings.specs.declared.fault.BlockFault.{BlockFault}
-use Rattle.acl_cli.specs.Telling.{is_empty}
+use Rattle.acl_cli.specs.Reporting.{is_empty}
 use Rattle.acl_reports.specs.Files.{file_of}
 use Rattle.acl_people.specs.Person.{Person}
 use Rattle.acl_people.specs.Asked.{persons_of}
 use Rattle.acl_listing_changes.specs.ChangeSteps.{Appended}
-use Rattle.acl_listing_changes.specs.Changes.{TellsIf, TellsOld}
-use Rattle.acl_listing_changes.specs.ImpactSteps.{TellsAt, TellsBy, TellsRead}
+use Rattle.acl_listing_changes.specs.Changes.{ReportsIf, ReportsOld}
+use Rattle.acl_listing_changes.specs.ImpactSteps.{ReportsAt, ReportsBy, ReportsRead}
 use Rattle.acl_listing_changes.specs.ImpactText.{line_at}
-use Rattle.acl_listing_changes.specs.Impacting.{Concern, ImpactAsking, Tells, TellsAnybody, TellsChange, TellsFirst, TellsImpact, TellsPerson, TellsPersons, TellsThose, fault_of, impacting, told_gone, told_new}
+use Rattle.acl_listing_changes.specs.Impacting.{Concern, ImpactAsking, Reports, ReportsAnybody, ReportsChange, ReportsFirst, ReportsImpact, ReportsPerson, ReportsPersons, ReportsThose, fault_of, impacting, reported_gone, reported_new}
 use Rattle.acl_listing_changes.specs.WrittenChanges.{IsChanged, changed_text}
 use Rattle.acl_listing_changes.specs.declared.impact.changed.Changed.{Changed}
-use Rattle.acl_listing_changes.proofs.TellerLemmas.{nothing_if, told_if}
+use Rattle.acl_listing_changes.proofs.ReporterLemmas.{nothing_if, reported_if}
 
 -- ---- who is at a place
 
@@ -55,91 +55,91 @@ none_left names whos place past = drop_past (persons_of names whos) place (omega
 -- ---- their lines
 
 module _ (before after : File) (path : List ℕ) where
-  either : (some : Bool) (person : Person) (text : List ℕ) → TellsBy some before after path person text → TellsPerson before after path person text
-  either true person text tells = inr tells
-  either false person text tells = inl tells
+  either : (some : Bool) (person : Person) (text : List ℕ) → ReportsBy some before after path person text → ReportsPerson before after path person text
+  either true person text reports = inr reports
+  either false person text reports = inl reports
 
   nothing_more : (more rest : List ℕ) → more ≡ [] → rest ≡ [] → more ++ rest ≡ []
   nothing_more more rest none empty = ap (λ text. text ++ rest) none ∙ empty
 
-  pub each_on : (place : ℕ) (persons : List Person) (some : Bool) (more : List ℕ) → TellsAt some before after path (slice_get persons place) more
-      → (rest : List ℕ) → TellsPersons before after path (drop (suc place) persons) rest → TellsPersons before after path (drop place persons) (more ++ rest)
-  each_on zero [] some more (none, empty) rest tells = nothing_more more rest empty tells
-  each_on zero (person ∷ persons) some more told rest tells = (more, rest, either some person more told, tells, refl)
-  each_on (suc place) [] some more (none, empty) rest tells = nothing_more more rest empty tells
-  each_on (suc place) (person ∷ persons) some more told rest tells = each_on place persons some more told rest tells
+  pub each_on : (place : ℕ) (persons : List Person) (some : Bool) (more : List ℕ) → ReportsAt some before after path (slice_get persons place) more
+      → (rest : List ℕ) → ReportsPersons before after path (drop (suc place) persons) rest → ReportsPersons before after path (drop place persons) (more ++ rest)
+  each_on zero [] some more (none, empty) rest reports = nothing_more more rest empty reports
+  each_on zero (person ∷ persons) some more reported rest reports = (more, rest, either some person more reported, reports, refl)
+  each_on (suc place) [] some more (none, empty) rest reports = nothing_more more rest empty reports
+  each_on (suc place) (person ∷ persons) some more reported rest reports = each_on place persons some more reported rest reports
 
-  pub first_on : (place : ℕ) (persons : List Person) (more : List ℕ) → TellsAt false before after path (slice_get persons place) more
-      → (more ≡ []) × ((text : List ℕ) → TellsFirst before after path (drop (suc place) persons) text → TellsFirst before after path (drop place persons) text)
-  first_on zero [] more told = (told.1, λ text tells. tells)
-  first_on zero (person ∷ persons) more told = (told.1, λ text tells. inl (told.0, tells))
-  first_on (suc place) [] more told = (told.1, λ text tells. tells)
-  first_on (suc place) (person ∷ persons) more told = first_on place persons more told
+  pub first_on : (place : ℕ) (persons : List Person) (more : List ℕ) → ReportsAt false before after path (slice_get persons place) more
+      → (more ≡ []) × ((text : List ℕ) → ReportsFirst before after path (drop (suc place) persons) text → ReportsFirst before after path (drop place persons) text)
+  first_on zero [] more reported = (reported.1, λ text reports. reports)
+  first_on zero (person ∷ persons) more reported = (reported.1, λ text reports. inl (reported.0, reports))
+  first_on (suc place) [] more reported = (reported.1, λ text reports. reports)
+  first_on (suc place) (person ∷ persons) more reported = first_on place persons more reported
 
-  pub first_here : (place : ℕ) (persons : List Person) (more : List ℕ) → TellsAt true before after path (slice_get persons place) more → TellsFirst before after path (drop place persons) more
-  first_here zero [] more told = absurd (true≢false told.0)
-  first_here zero (person ∷ persons) more told = inr told
-  first_here (suc place) [] more told = absurd (true≢false told.0)
-  first_here (suc place) (person ∷ persons) more told = first_here place persons more told
+  pub first_here : (place : ℕ) (persons : List Person) (more : List ℕ) → ReportsAt true before after path (slice_get persons place) more → ReportsFirst before after path (drop place persons) more
+  first_here zero [] more reported = absurd (true≢false reported.0)
+  first_here zero (person ∷ persons) more reported = inr reported
+  first_here (suc place) [] more reported = absurd (true≢false reported.0)
+  first_here (suc place) (person ∷ persons) more reported = first_here place persons more reported
 
-  -- what was told of those before a place leads on to what is told of those from there on
+  -- what was reported of those before a place leads on to what is reported for those from there on
   pub record IsEachTo (persons : List Person) (place : ℕ) (out out' : List ℕ) : Type 0 where
-    pub told : List ℕ
-    pub out_is : out' ≡ out ++ told
-    pub leads : (rest : List ℕ) → TellsPersons before after path (drop place persons) rest → TellsPersons before after path persons (told ++ rest)
+    pub reported : List ℕ
+    pub out_is : out' ≡ out ++ reported
+    pub leads : (rest : List ℕ) → ReportsPersons before after path (drop place persons) rest → ReportsPersons before after path persons (reported ++ rest)
 
   pub each_more : (persons : List Person) (place : ℕ) (out mid out' : List ℕ) → IsEachTo persons place out mid → (some : Bool) (more : List ℕ)
-      → TellsAt some before after path (slice_get persons place) more → out' ≡ mid ++ more → IsEachTo persons (place + 1) out out'
-  each_more persons place out mid out' was some more tells is =
+      → ReportsAt some before after path (slice_get persons place) more → out' ≡ mid ++ more → IsEachTo persons (place + 1) out out'
+  each_more persons place out mid out' was some more reports is =
       let one : place + 1 ≡ suc place = omega arith in
       record {
-        told = was.told ++ more;
-        out_is = is ∙ ap (λ text. text ++ more) was.out_is ∙ append_assoc out was.told more;
+        reported = was.reported ++ more;
+        out_is = is ∙ ap (λ text. text ++ more) was.out_is ∙ append_assoc out was.reported more;
         leads = λ rest last.
-            subst (TellsPersons before after path persons) (sym (append_assoc was.told more rest))
-            (was.leads (more ++ rest) (each_on place persons some more tells rest (subst (λ n. TellsPersons before after path (drop n persons) rest) one last)));
+            subst (ReportsPersons before after path persons) (sym (append_assoc was.reported more rest))
+            (was.leads (more ++ rest) (each_on place persons some more reports rest (subst (λ n. ReportsPersons before after path (drop n persons) rest) one last)));
       }
 
   pub record IsFirstTo (persons : List Person) (place : ℕ) (out out' : List ℕ) : Type 0 where
     pub same : out' ≡ out
-    pub leads : (text : List ℕ) → TellsFirst before after path (drop place persons) text → TellsFirst before after path persons text
+    pub leads : (text : List ℕ) → ReportsFirst before after path (drop place persons) text → ReportsFirst before after path persons text
 
   pub first_more : (persons : List Person) (place : ℕ) (out mid out' : List ℕ) → IsFirstTo persons place out mid → (more : List ℕ)
-      → TellsAt false before after path (slice_get persons place) more → out' ≡ mid ++ more → IsFirstTo persons (place + 1) out out'
-  first_more persons place out mid out' was more tells is =
+      → ReportsAt false before after path (slice_get persons place) more → out' ≡ mid ++ more → IsFirstTo persons (place + 1) out out'
+  first_more persons place out mid out' was more reports is =
       let one : place + 1 ≡ suc place = omega arith in
-      let on = first_on place persons more tells in
+      let on = first_on place persons more reports in
       record {
         same = is ∙ ap (λ text. mid ++ text) on.0 ∙ append-nil mid ∙ was.same;
-        leads = λ text last. was.leads text (on.1 text (subst (λ n. TellsFirst before after path (drop n persons) text) one last));
+        leads = λ text last. was.leads text (on.1 text (subst (λ n. ReportsFirst before after path (drop n persons) text) one last));
       }
 
   -- before the first of them, and behind the last
 
   pub each_none : (persons : List Person) (out : List ℕ) → IsEachTo persons 0 out out
-  each_none persons out = record { told = []; out_is = sym (append-nil out); leads = λ rest tells. tells }
+  each_none persons out = record { reported = []; out_is = sym (append-nil out); leads = λ rest reports. reports }
 
   pub first_none : (persons : List Person) (out : List ℕ) → IsFirstTo persons 0 out out
-  first_none persons out = record { same = refl; leads = λ text tells. tells }
+  first_none persons out = record { same = refl; leads = λ text reports. reports }
 
   module _ (names : List (List ℕ)) (whos : List Identity) (place : ℕ) (past : length whos ≤ place) (out out' : List ℕ) where
-    pub each_all : IsEachTo (persons_of names whos) place out out' → Tells (TellsPersons before after path (persons_of names whos)) out out'
+    pub each_all : IsEachTo (persons_of names whos) place out out' → Reports (ReportsPersons before after path (persons_of names whos)) out out'
     each_all is =
         let none = none_left names whos place past in
-        let last : TellsPersons before after path (drop place (persons_of names whos)) [] = subst (λ persons. TellsPersons before after path persons []) (sym none) refl in
-        record { text = is.told ++ []; is = is.leads [] last; out_is = is.out_is ∙ ap (λ text. out ++ text) (sym (append-nil is.told)) }
+        let last : ReportsPersons before after path (drop place (persons_of names whos)) [] = subst (λ persons. ReportsPersons before after path persons []) (sym none) refl in
+        record { text = is.reported ++ []; is = is.leads [] last; out_is = is.out_is ∙ ap (λ text. out ++ text) (sym (append-nil is.reported)) }
 
-    pub first_all : IsFirstTo (persons_of names whos) place out out' → Tells (TellsFirst before after path (persons_of names whos)) out out'
+    pub first_all : IsFirstTo (persons_of names whos) place out out' → Reports (ReportsFirst before after path (persons_of names whos)) out out'
     first_all is =
         let none = none_left names whos place past in
-        let last : TellsFirst before after path (drop place (persons_of names whos)) [] = subst (λ persons. TellsFirst before after path persons []) (sym none) refl in
+        let last : ReportsFirst before after path (drop place (persons_of names whos)) [] = subst (λ persons. ReportsFirst before after path persons []) (sym none) refl in
         record { text = []; is = is.leads [] last; out_is = is.same ∙ sym (append-nil out) }
 
   pub first_found : (persons : List Person) (place : ℕ) (out mid out' : List ℕ) → IsFirstTo persons place out mid → (more : List ℕ)
-      → TellsAt true before after path (slice_get persons place) more → out' ≡ mid ++ more → Tells (TellsFirst before after path persons) out out'
-  first_found persons place out mid out' was more tells is = record {
+      → ReportsAt true before after path (slice_get persons place) more → out' ≡ mid ++ more → Reports (ReportsFirst before after path persons) out out'
+  first_found persons place out mid out' was more reports is = record {
     text = more;
-    is = was.leads more (first_here place persons more tells);
+    is = was.leads more (first_here place persons more reports);
     out_is = is ∙ ap (λ text. text ++ more) was.same;
   }
 
@@ -155,9 +155,9 @@ same_length out (byte ∷ lines) = by (nat_eq (length (out ++ byte ∷ lines)) (
         let same : length (out ++ byte ∷ lines) ≡ length out = (Decides-eqb (length (out ++ byte ∷ lines)) (length out)).0 is in
         absurd (omega (arith, same, length-append out (byte ∷ lines)))
 
-pub impact_told : (concern : Concern) (before after : File) (path out mid out' : List ℕ) → Tells (TellsThose concern.each before after path concern.persons) out mid
-    → (asked : Bool) → asked ≡ (concern.somebody && nat_eq (length mid) (length out)) → Tells (TellsAnybody asked concern.known before after path) mid out' → Tells (TellsImpact concern before after path) out out'
-impact_told concern before after path out mid out' those asked asked_is other =
+pub impact_reported : (concern : Concern) (before after : File) (path out mid out' : List ℕ) → Reports (ReportsThose concern.each before after path concern.persons) out mid
+    → (asked : Bool) → asked ≡ (concern.somebody && nat_eq (length mid) (length out)) → Reports (ReportsAnybody asked concern.known before after path) mid out' → Reports (ReportsImpact concern before after path) out out'
+impact_reported concern before after path out mid out' those asked asked_is other =
     let empty : nat_eq (length mid) (length out) ≡ is_empty those.text = ap (λ text. nat_eq (length text) (length out)) those.out_is ∙ same_length out those.text in
     let is : asked ≡ (concern.somebody && is_empty those.text) = asked_is ∙ ap (λ b. concern.somebody && b) empty in
     record {
@@ -166,28 +166,28 @@ impact_told concern before after path out mid out' those asked asked_is other =
         lines = those.text;
         lines_are = those.is;
         other = other.text;
-        other_is = subst (λ b. TellsAnybody b concern.known before after path other.text) is other.is;
+        other_is = subst (λ b. ReportsAnybody b concern.known before after path other.text) is other.is;
         text_is = refl;
       };
       out_is = other.out_is ∙ ap (λ text. text ++ other.text) those.out_is ∙ append_assoc out those.text other.text;
     }
 
 -- and behind it what is written otherwise
-pub change_told : (asking : ImpactAsking) (before after : FileValue) (old new : File) → old ≡ file_of before → new ≡ file_of after → (out mid out' : List ℕ)
-    → Tells (TellsImpact asking.concern old new (printed_path after.path)) out mid → (changed : Changed) → IsChanged before after changed → out' ≡ mid ++ changed_text asking.written changed (printed_path after.path)
-    → Tells (TellsChange asking before after) out out'
-change_told asking before after old new old_is new_is out mid out' told changed changed_is is =
+pub change_reported : (asking : ImpactAsking) (before after : FileValue) (old new : File) → old ≡ file_of before → new ≡ file_of after → (out mid out' : List ℕ)
+    → Reports (ReportsImpact asking.concern old new (printed_path after.path)) out mid → (changed : Changed) → IsChanged before after changed → out' ≡ mid ++ changed_text asking.written changed (printed_path after.path)
+    → Reports (ReportsChange asking before after) out out'
+change_reported asking before after old new old_is new_is out mid out' reported changed changed_is is =
     let written : List ℕ = changed_text asking.written changed (printed_path after.path) in
     record {
-      text = told.text ++ written;
+      text = reported.text ++ written;
       is = record {
-        impact = told.text;
-        impact_is = subst (λ (old : File). TellsImpact asking.concern old (file_of after) (printed_path after.path) told.text) old_is (subst (λ (new : File). TellsImpact asking.concern old new (printed_path after.path) told.text) new_is told.is);
+        impact = reported.text;
+        impact_is = subst (λ (old : File). ReportsImpact asking.concern old (file_of after) (printed_path after.path) reported.text) old_is (subst (λ (new : File). ReportsImpact asking.concern old new (printed_path after.path) reported.text) new_is reported.is);
         written = written;
         written_is = (changed, changed_is, refl);
         text_is = refl;
       };
-      out_is = is ∙ ap (λ text. text ++ written) told.out_is ∙ append_assoc out told.text written;
+      out_is = is ∙ ap (λ text. text ++ written) reported.out_is ∙ append_assoc out reported.text written;
     }
 
 -- what holds of a reading that gave this
@@ -203,43 +203,43 @@ module _ (asking : ImpactAsking) (text : List ℕ) (file : FileValue) (reads : f
   reads_well : is_none ((impacting asking).fault text) ≡ true
   reads_well = ap (λ (reading : Result FileValue BlockFault). is_none (fault_of reading)) reads
 
-  pub new_told : out' ≡ out ++ told_new asking file → Appended ((impacting asking).IsNew text) out out' beside beside
-  new_told is = record {
-    told = told_new asking file;
+  pub new_reported : out' ≡ out ++ reported_new asking file → Appended ((impacting asking).IsNew text) out out' beside beside
+  new_reported is = record {
+    reported = reported_new asking file;
     said = [];
-    tells = of_reading (λ other. (told_new asking file ≡ told_new asking other) × (nothing ≡ nothing)) (file_by asking.names text) file reads (refl, refl);
+    reports = of_reading (λ other. (reported_new asking file ≡ reported_new asking other) × (nothing ≡ nothing)) (file_by asking.names text) file reads (refl, refl);
     out_is = is;
     beside_is = sym (append-nil beside);
   }
 
-  pub gone_told : out' ≡ out ++ told_gone asking file → Appended (TellsIf (is_none ((impacting asking).fault text)) ((impacting asking).IsGone text)) out out' beside beside
-  gone_told is = told_if (is_none ((impacting asking).fault text)) ((impacting asking).IsGone text) reads_well out out' beside beside (record {
-    told = told_gone asking file;
+  pub gone_reported : out' ≡ out ++ reported_gone asking file → Appended (ReportsIf (is_none ((impacting asking).fault text)) ((impacting asking).IsGone text)) out out' beside beside
+  gone_reported is = reported_if (is_none ((impacting asking).fault text)) ((impacting asking).IsGone text) reads_well out out' beside beside (record {
+    reported = reported_gone asking file;
     said = [];
-    tells = of_reading (λ other. (told_gone asking file ≡ told_gone asking other) × (nothing ≡ nothing)) (file_by asking.names text) file reads (refl, refl);
+    reports = of_reading (λ other. (reported_gone asking file ≡ reported_gone asking other) × (nothing ≡ nothing)) (file_by asking.names text) file reads (refl, refl);
     out_is = is;
     beside_is = sym (append-nil beside);
   })
 
-  pub changed_told : (old : List ℕ) → Tells (TellsRead asking (file_by asking.names old) file) out out' → Appended (TellsOld (impacting asking) old text) out out' beside beside
-  changed_told old told = record {
-    told = told.text;
+  pub changed_reported : (old : List ℕ) → Reports (ReportsRead asking (file_by asking.names old) file) out out' → Appended (ReportsOld (impacting asking) old text) out out' beside beside
+  changed_reported old reported = record {
+    reported = reported.text;
     said = [];
-    tells = by (file_by asking.names old) refl told.is;
-    out_is = told.out_is;
+    reports = by (file_by asking.names old) refl reported.is;
+    out_is = reported.out_is;
     beside_is = sym (append-nil beside);
   }
     where
-      by : (reading : Result FileValue BlockFault) → file_by asking.names old ≡ reading → TellsRead asking reading file told.text
-          → TellsIf (is_none (fault_of (file_by asking.names old))) ((impacting asking).IsChanged old text) told.text []
-      by (Err fault) is none = subst (λ reading. TellsIf (is_none (fault_of reading)) ((impacting asking).IsChanged old text) told.text []) (sym is) (none, refl)
-      by (Ok before) is tells =
-          subst (λ reading. TellsIf (is_none (fault_of reading)) ((impacting asking).IsChanged old text) told.text []) (sym is)
-          (of_reading (λ before. IfOk (file_by asking.names text) (λ after. TellsChange asking before after told.text × (nothing ≡ nothing))) (file_by asking.names old) before is
-          (of_reading (λ after. TellsChange asking before after told.text × (nothing ≡ nothing)) (file_by asking.names text) file reads (tells, refl)))
+      by : (reading : Result FileValue BlockFault) → file_by asking.names old ≡ reading → ReportsRead asking reading file reported.text
+          → ReportsIf (is_none (fault_of (file_by asking.names old))) ((impacting asking).IsChanged old text) reported.text []
+      by (Err fault) is none = subst (λ reading. ReportsIf (is_none (fault_of reading)) ((impacting asking).IsChanged old text) reported.text []) (sym is) (none, refl)
+      by (Ok before) is reports =
+          subst (λ reading. ReportsIf (is_none (fault_of reading)) ((impacting asking).IsChanged old text) reported.text []) (sym is)
+          (of_reading (λ before. IfOk (file_by asking.names text) (λ after. ReportsChange asking before after reported.text × (nothing ≡ nothing))) (file_by asking.names old) before is
+          (of_reading (λ after. ReportsChange asking before after reported.text × (nothing ≡ nothing)) (file_by asking.names text) file reads (reports, refl)))
 
 pub unread_gone : (asking : ImpactAsking) (text : List ℕ) (fault : BlockFault) → file_by asking.names text ≡ Err fault → (out beside : List ℕ)
-    → Appended (TellsIf (is_none ((impacting asking).fault text)) ((impacting asking).IsGone text)) out out beside beside
+    → Appended (ReportsIf (is_none ((impacting asking).fault text)) ((impacting asking).IsGone text)) out out beside beside
 unread_gone asking text fault is out beside =
     nothing_if (is_none ((impacting asking).fault text)) ((impacting asking).IsGone text) (ap (λ (reading : Result FileValue BlockFault). is_none (fault_of reading)) is) out beside
 

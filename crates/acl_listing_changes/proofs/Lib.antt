@@ -6,7 +6,7 @@ pub mod RestoreLemmas
 pub mod OpeningLemmas
 pub mod SidesLemmas
 pub mod ResultLemmas
-pub mod TellerLemmas
+pub mod ReporterLemmas
 pub mod ComesLemmas
 pub mod FirstPathLemmas
 pub mod AlikeLemmas

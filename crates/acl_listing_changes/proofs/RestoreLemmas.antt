@@ -10,31 +10,31 @@ use Rattle.acl_listings.specs.Listing.{Block}
 use Rattle.acl_listings.specs.declared.fault.BlockFault.{BlockFault}
 use Rattle.acl_reports.specs.Paths.{block_for, has_path, is_among, lists}
 use Rattle.acl_reports.specs.Placed.{Placed, in_places_after}
-use Rattle.acl_listing_changes.specs.Changes.{TellsIf, TellsNextBy, fault_after, unless_repeated}
+use Rattle.acl_listing_changes.specs.Changes.{ReportsIf, ReportsNextBy, fault_after, unless_repeated}
 use Rattle.acl_listing_changes.specs.RestoreLaws.{BringsBack, PrintsBlocks, other_text, other_unless, printed_text, text_has, text_restored}
 use Rattle.acl_listing_changes.specs.Restoring.{block_text, restore_fault, restored_text, restoring}
 use Rattle.acl_listing_changes.proofs.PlacedLemmas.{put}
 
--- ---- what is told is what is printed
+-- ---- what is reported is what is printed
 
-restored_is : (old new told said : List ℕ) (reads : Bool) → TellsIf reads (λ told said. (told ≡ restored_text old new) × (said ≡ [])) told said
-    → told ≡ printed_text (cond (reads && not (bytes_eq old new)) (Some old) None)
-restored_is old new told said false (none, silent) = none
-restored_is old new told said true (is, silent) = is ∙ by (bytes_eq old new)
+restored_is : (old new reported said : List ℕ) (reads : Bool) → ReportsIf reads (λ reported said. (reported ≡ restored_text old new) × (said ≡ [])) reported said
+    → reported ≡ printed_text (cond (reads && not (bytes_eq old new)) (Some old) None)
+restored_is old new reported said false (none, silent) = none
+restored_is old new reported said true (is, silent) = is ∙ by (bytes_eq old new)
   where
     by : (b : Bool) → cond b [] (block_text old) ≡ printed_text (cond (not b) (Some old) None)
     by true = refl
     by false = refl
 
-prints_by : (name : List ℕ) (was : Option Block) (block : Block) (fault : Option BlockFault) (told said : List ℕ) → TellsNextBy restoring name was block fault told said
-    → told ≡ printed_text (other_unless fault block.text was)
-prints_by name was block (Some fault) told said tells = tells.0
-prints_by name None block None told said tells = tells.0
-prints_by name (Some old) block None told said tells = restored_is old.text block.text told said (is_none (restore_fault old.text)) tells
+prints_by : (name : List ℕ) (was : Option Block) (block : Block) (fault : Option BlockFault) (reported said : List ℕ) → ReportsNextBy restoring name was block fault reported said
+    → reported ≡ printed_text (other_unless fault block.text was)
+prints_by name was block (Some fault) reported said reports = reports.0
+prints_by name None block None reported said reports = reports.0
+prints_by name (Some old) block None reported said reports = restored_is old.text block.text reported said (is_none (restore_fault old.text)) reports
 
 pub prints_blocks : PrintsBlocks
-prints_blocks = λ name before placed told said tells.
-    prints_by name (block_for before placed.here.text) placed.here (fault_after restoring before placed) told said tells
+prints_blocks = λ name before placed reported said reports.
+    prints_by name (block_for before placed.here.text) placed.here (fault_after restoring before placed) reported said reports
 
 -- ---- what is printed has the path of the block after
 

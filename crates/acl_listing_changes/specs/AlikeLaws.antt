@@ -1,4 +1,4 @@
--- `compare` and `impact` tell by one meaning for whom two lists differ.
+-- `compare` and `impact` report by one meaning for whom two lists differ.
 use Rattle.std.specs.Prelude.{◌↔◌}
 use Rattle.acl_names.specs.Asker.{identity_of}
 use Rattle.acl_nfs4.specs.declared.comparison.Difference.{Difference}

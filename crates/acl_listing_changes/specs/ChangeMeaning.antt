@@ -7,7 +7,7 @@ use Rattle.acl_cli.specs.Failures.{failed_write}
 use Rattle.acl_cli.specs.declared.failure.Failure.{Failure}
 use Rattle.acl_cli.specs.declared.failure.Failure.TheVariants.{CannotRead, Misuse}
 use Rattle.acl_cli.specs.declared.misuse.Misuse.TheVariants.{InputTwice}
-use Rattle.acl_reports.specs.Telling.{IsListingFailure}
+use Rattle.acl_reports.specs.Reporting.{IsListingFailure}
 use Rattle.acl_reports.specs.ListingMeaning.{bytes_named, inputs_of, is_input}
 use Rattle.acl_listing_changes.specs.Changes.{IsChangeAnswer, IsChangeBegun, OfListings, Wording}
 

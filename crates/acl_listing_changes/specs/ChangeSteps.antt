@@ -1,4 +1,4 @@
--- How it is reported of two listings block by block. Private steps, which no public clause cites.
+-- How it is reported for two listings block by block. Private steps, which no public clause cites.
 use Rattle.std.specs.Prelude.{◌≡◌, ◌<◌, ◌+◌, ◌-◌, ℕ, zero, suc, Bool, true, false, not, ◌&&◌, ◌||◌}
 use Rattle.std.specs.Prelude.{List, [], ◌∷◌, ◌++◌, Option, Some, None, IfSome, get_or, is_none}
 use Rattle.std.specs.Prelude.{is_some, length, nat_eq, option_map, replicate, set, slice_get}
@@ -13,7 +13,7 @@ use Rattle.acl_reports.specs.Listed.{AreSaid, closing, ending_of, first_guess}
 use Rattle.acl_reports.specs.Listed.{is_fault, is_unread, no_blocks}
 use Rattle.acl_reports.specs.Paths.{block_for, first_path, or_first}
 use Rattle.acl_reports.specs.declared.tally.Tally.{Tally}
-use Rattle.acl_listing_changes.specs.Changes.{Named, TellsEach, TellsIf, TellsNextBy, Wording}
+use Rattle.acl_listing_changes.specs.Changes.{Named, ReportsEach, ReportsIf, ReportsNextBy, Wording}
 use Rattle.acl_listing_changes.specs.Changes.{apart_by, fault_before, items_before, items_of}
 use Rattle.acl_listing_changes.specs.Changes.{tally_of, unless_repeated}
 use Rattle.acl_listing_changes.specs.Kept.{place_of}
@@ -21,12 +21,12 @@ use Rattle.acl_listing_changes.specs.declared.between.progress.Stage.{Stage}
 use Rattle.acl_listing_changes.specs.declared.between.progress.Stage.TheVariants as stage
 
 -- what was appended to an answer, and beside it, is this
-pub record Appended (Tells : List ℕ → List ℕ → Type 0) (out out' beside beside' : List ℕ)
+pub record Appended (Reports : List ℕ → List ℕ → Type 0) (out out' beside beside' : List ℕ)
     : Type 0 where
-  pub told : List ℕ
+  pub reported : List ℕ
   pub said : List ℕ
-  pub tells : Tells told said
-  pub out_is : out' ≡ out ++ told
+  pub reports : Reports reported said
+  pub out_is : out' ≡ out ++ reported
   pub beside_is : beside' ≡ beside ++ said
 
 -- ---- the listing before
@@ -123,25 +123,25 @@ abbrev pub seen_on : Wording → List Block → SeenValue → Block → SeenValu
 seen_on wording before seen block = with_seen seen (place_of before block.text) block.text
     (fault_here wording before seen.met block.text)
 
--- ---- what is left to tell
+-- ---- what is left to report
 
-pub data Told : Type 0 where
-  Opening : List ℕ → Told
-  Here : SeenValue → Block → Told
-  Closing : SeenValue → Told
-  Missing : List Bool → ℕ → Told
+pub data Reported : Type 0 where
+  Opening : List ℕ → Reported
+  Here : SeenValue → Block → Reported
+  Closing : SeenValue → Reported
+  Missing : List Bool → ℕ → Reported
 
 -- of so many blocks before, from a place on
-abbrev pub missing_from : List Bool → ℕ → ℕ → List Told
+abbrev pub missing_from : List Bool → ℕ → ℕ → List Reported
 missing_from met place zero = []
 missing_from met place (suc count) = Missing met place ∷ missing_from met (place + 1) count
 
 -- of these blocks after, and then of those before
-abbrev pub told_from : Wording → List Block → SeenValue → List Block → List Told
-told_from wording before seen [] =
+abbrev pub reported_from : Wording → List Block → SeenValue → List Block → List Reported
+reported_from wording before seen [] =
     Closing seen ∷ missing_from seen.met 0 (length before)
-told_from wording before seen (block ∷ blocks) =
-    Here seen block ∷ told_from wording before (seen_on wording before seen block) blocks
+reported_from wording before seen (block ∷ blocks) =
+    Here seen block ∷ reported_from wording before (seen_on wording before seen block) blocks
 
 -- how far it was reported
 pub record Left : Type 0 where
@@ -153,32 +153,33 @@ pub record Left : Type 0 where
   pub block : Block
   pub coming : Option (List Block)
 
-abbrev pub left_by : Wording → List Block → Left → Stage → Option (List Told)
+abbrev pub left_by : Wording → List Block → Left → Stage → Option (List Reported)
 left_by wording before left stage.Opening = option_map (λ blocks.
-    Opening left.opening ∷ told_from wording before left.seen blocks) left.coming
+    Opening left.opening ∷ reported_from wording before left.seen blocks) left.coming
 left_by wording before left stage.After =
-    option_map (told_from wording before left.seen) left.coming
+    option_map (reported_from wording before left.seen) left.coming
 left_by wording before left (stage.Gone place) =
     Some (missing_from left.seen.met place (length before - place))
 
-abbrev pub left_to_tell : Wording → List Block → Left → Option (List Told)
-left_to_tell wording before left = left_by wording before left left.stage
+abbrev pub left_to_report : Wording → List Block → Left → Option (List Reported)
+left_to_report wording before left = left_by wording before left left.stage
 
--- what is reported of a block before whose place wasn't met
-abbrev pub TellsMissing : Wording → List Block → List Bool → ℕ → List ℕ → List ℕ → Type 0
-TellsMissing wording before met place told said = IfSome (slice_get before place) (λ block.
-    TellsIf (is_none (fault_before wording (record { earlier = take place before; here = block }))
-    && not (get_or met place false)) (wording.IsGone block.text) told said)
+-- what is reported for a block before whose place wasn't met
+abbrev pub ReportsMissing : Wording → List Block → List Bool → ℕ → List ℕ → List ℕ → Type 0
+ReportsMissing wording before met place reported said = IfSome (slice_get before place) (λ block.
+    ReportsIf (is_none (fault_before wording (record { earlier = take place before; here = block }))
+    && not (get_or met place false)) (wording.IsGone block.text) reported said)
 
-abbrev pub TellsTold : Wording → List ℕ → List Block → Told → List ℕ → List ℕ → Type 0
-TellsTold wording name before (Opening text) told said = (told ≡ []) × (said ≡ text)
-TellsTold wording name before (Here seen block) told said = TellsNextBy wording name
-    (block_for before block.text) block (fault_here wording before seen.met block.text) told said
-TellsTold wording name before (Closing seen) told said = (told ≡ [])
+abbrev pub ReportsReported : Wording → List ℕ → List Block → Reported → List ℕ → List ℕ → Type 0
+ReportsReported wording name before (Opening text) reported said = (reported ≡ []) × (said ≡ text)
+ReportsReported wording name before (Here seen block) reported said = ReportsNextBy wording name
+    (block_for before block.text) block
+    (fault_here wording before seen.met block.text) reported said
+ReportsReported wording name before (Closing seen) reported said = (reported ≡ [])
     × (said ≡ apart_by wording seen.known (first_path before) seen.first
     ++ closing name seen.tally)
-TellsTold wording name before (Missing met place) told said =
-    TellsMissing wording before met place told said
+ReportsReported wording name before (Missing met place) reported said =
+    ReportsMissing wording before met place reported said
 
 -- what was counted in the end, if it is known
 abbrev pub final_by : Wording → List Block → Left → Stage → Option Tally
@@ -199,20 +200,25 @@ HandsOn (Some items) item (Some more) = items ≡ item ∷ more
 
 pub record IsStep (wording : Wording) (name : List ℕ) (before : List Block) (old new : Left)
     (out out' beside beside' : List ℕ) : Type 0 where
-  pub step : Told
-  pub hands : HandsOn (left_to_tell wording before old) step (left_to_tell wording before new)
-  pub appended : Appended (TellsTold wording name before step) out out' beside beside'
+  pub step : Reported
+  pub hands : HandsOn (left_to_report wording before old) step (left_to_report wording before new)
+  pub appended : Appended (ReportsReported wording name before step) out out' beside beside'
   pub final : IfSome (final_tally wording before old) (λ tally.
       final_tally wording before new ≡ Some tally)
 
 -- from here on
-abbrev pub TellsLeft : Wording → List ℕ → List Block → Left → List ℕ → List ℕ → Type 0
-TellsLeft wording name before left told said = IfSome (left_to_tell wording before left) (λ steps.
-    TellsEach (TellsTold wording name before) steps told said)
+abbrev pub ReportsLeft : Wording → List ℕ → List Block → Left → List ℕ → List ℕ
+    → Type 0
+ReportsLeft wording name before left reported said = IfSome (left_to_report wording before left)
+    (λ steps.
+    ReportsEach (ReportsReported wording name before) steps reported said)
 
-abbrev pub BeginsLeft : Wording → List ℕ → List Block → Left → List ℕ → List ℕ → Type 0
-BeginsLeft wording name before left told said = IfSome (left_to_tell wording before left) (λ steps.
-    (count : ℕ) × TellsEach (TellsTold wording name before) (take count steps) told said)
+abbrev pub BeginsLeft : Wording → List ℕ → List Block → Left → List ℕ → List ℕ
+    → Type 0
+BeginsLeft wording name before left reported said = IfSome (left_to_report wording before left)
+    (λ steps.
+    (count : ℕ) × ReportsEach (ReportsReported wording name before)
+    (take count steps) reported said)
 
 abbrev pub EndsLeft : Wording → List Block → Left → Ending → Type 0
 EndsLeft wording before left ending = IfSome (final_tally wording before left) (λ tally.
@@ -224,4 +230,4 @@ pub record IsLast (wording : Wording) (name : List ℕ) (before : List Block) (o
   pub stays : new ≡ old
   pub out_is : out' ≡ out
   pub beside_is : beside' ≡ beside
-  pub none : TellsLeft wording name before old [] []
+  pub none : ReportsLeft wording name before old [] []

@@ -1,10 +1,10 @@
--- What is reported of two listings, the one before and the one after.
+-- What is reported for two listings, the one before and the one after.
 use Rattle.std.specs.Prelude.{◌≡◌, ℕ, Bool, true, false, not, ◌&&◌, List, [], ◌∷◌, ◌++◌, Option}
 use Rattle.std.specs.Prelude.{Some, None, IfSome, Ok, Err, is_none, map, take}
 use Rattle.std.specs.List.{list_any}
 use Rattle.acl_names.specs.Names.{Names}
 use Rattle.acl_cli.specs.Commands.{Answer}
-use Rattle.acl_cli.specs.Telling.{is_empty}
+use Rattle.acl_cli.specs.Reporting.{is_empty}
 use Rattle.acl_cli.specs.declared.command.Ending.{Ending}
 use Rattle.acl_cli.specs.declared.command.Ending.TheVariants.{Answered, InPart, Differs}
 use Rattle.acl_listings.specs.Cursor.{blocks_to_come}
@@ -33,7 +33,7 @@ pub record Wording : Type 1 where
   pub IsGone : List ℕ → List ℕ → List ℕ → Type 0
   -- what is said where no path is in both listings, by the first path of each
   pub apart : List ℕ → List ℕ → List ℕ
-  -- whether the exit status tells that something is reported
+  -- whether the exit status reports that something is reported
   pub asks : Bool
 
 -- what is wrong with a block of a path that was there, if anything is: what is wrong with its size
@@ -70,35 +70,36 @@ abbrev pub tally_of : List Item → Tally
 tally_of items = tally_with no_blocks items
 
 -- this is reported and said if it holds, and else nothing
-abbrev pub TellsIf : Bool → (List ℕ → List ℕ → Type 0) → List ℕ → List ℕ → Type 0
-TellsIf true Tells told said = Tells told said
-TellsIf false Tells told said = (told ≡ []) × (said ≡ [])
+abbrev pub ReportsIf : Bool → (List ℕ → List ℕ → Type 0) → List ℕ → List ℕ → Type 0
+ReportsIf true Reports reported said = Reports reported said
+ReportsIf false Reports reported said = (reported ≡ []) × (said ≡ [])
 
 -- of a block before, if nothing is wrong with it, and the one after that has its path
-abbrev pub TellsOld : Wording → List ℕ → List ℕ → List ℕ → List ℕ → Type 0
-TellsOld wording old text =
-    TellsIf (is_none (wording.fault old)) (wording.IsChanged old text)
+abbrev pub ReportsOld : Wording → List ℕ → List ℕ → List ℕ → List ℕ → Type 0
+ReportsOld wording old text =
+    ReportsIf (is_none (wording.fault old)) (wording.IsChanged old text)
 
 -- of a block after, with which nothing is wrong: its path is new, or a block before has it
-abbrev pub TellsSince : Wording → Option Block → List ℕ → List ℕ → List ℕ → Type 0
-TellsSince wording None text = wording.IsNew text
-TellsSince wording (Some old) text = TellsOld wording old.text text
+abbrev pub ReportsSince : Wording → Option Block → List ℕ → List ℕ → List ℕ → Type 0
+ReportsSince wording None text = wording.IsNew text
+ReportsSince wording (Some old) text = ReportsOld wording old.text text
 
 -- of a block after, of a listing of this name, of which this is wrong, if anything is
-abbrev pub TellsNextBy : Wording → List ℕ → Option Block → Block → Option BlockFault → List ℕ
+abbrev pub ReportsNextBy : Wording → List ℕ → Option Block → Block → Option BlockFault → List ℕ
     → List ℕ → Type 0
-TellsNextBy wording name was block (Some fault) told said =
-    (told ≡ []) × IsFaultLine name wording.names block fault said
-TellsNextBy wording name was block None told said = TellsSince wording was block.text told said
+ReportsNextBy wording name was block (Some fault) reported said =
+    (reported ≡ []) × IsFaultLine name wording.names block fault said
+ReportsNextBy wording name was block None reported said = ReportsSince wording was block.text
+    reported said
 
-abbrev pub TellsNext : Wording → List ℕ → List Block → Placed Block → List ℕ → List ℕ → Type 0
-TellsNext wording name before placed = TellsNextBy wording name
+abbrev pub ReportsNext : Wording → List ℕ → List Block → Placed Block → List ℕ → List ℕ → Type 0
+ReportsNext wording name before placed = ReportsNextBy wording name
     (block_for before placed.here.text) placed.here (fault_after wording before placed)
 
 -- of a block before whose path no block after has
-abbrev pub TellsGone : Wording → List Block → Placed Block → List ℕ → List ℕ → Type 0
-TellsGone wording after placed =
-    TellsIf (is_none (fault_before wording placed) && not (lists after placed.here.text))
+abbrev pub ReportsGone : Wording → List Block → Placed Block → List ℕ → List ℕ → Type 0
+ReportsGone wording after placed =
+    ReportsIf (is_none (fault_before wording placed) && not (lists after placed.here.text))
     (wording.IsGone placed.here.text)
 
 -- what is said if both listings have paths, but none that is in both
@@ -135,25 +136,27 @@ abbrev pub steps_of : Named → Named → List Step
 steps_of before after = Before ∷ (map Next (in_places after.blocks)
     ++ (After ∷ map Gone (in_places before.blocks)))
 
-abbrev pub TellsStep : Wording → Named → Named → Step → List ℕ → List ℕ → Type 0
-TellsStep wording before after Before told said = (told ≡ []) × ((faults : List ℕ)
+abbrev pub ReportsStep : Wording → Named → Named → Step → List ℕ → List ℕ → Type 0
+ReportsStep wording before after Before reported said = (reported ≡ []) × ((faults : List ℕ)
     × AreSaid before.name wording.names (items_before wording before) faults
     × (said ≡ faults ++ closing before.name (tally_of (items_before wording before))))
-TellsStep wording before after (Next placed) told said =
-    TellsNext wording after.name before.blocks placed told said
-TellsStep wording before after After told said = (told ≡ [])
+ReportsStep wording before after (Next placed) reported said =
+    ReportsNext wording after.name before.blocks placed reported said
+ReportsStep wording before after After reported said = (reported ≡ [])
     × (said ≡ apart_text wording before.blocks after.blocks
     ++ closing after.name (tally_of (items_after wording before after)))
-TellsStep wording before after (Gone placed) told said =
-    TellsGone wording after.blocks placed told said
+ReportsStep wording before after (Gone placed) reported said =
+    ReportsGone wording after.blocks placed reported said
 
 -- each of them, one after the other
-abbrev pub TellsEach : {A : Type 0} → (A → List ℕ → List ℕ → Type 0) → List A → List ℕ → List ℕ
+abbrev pub ReportsEach : {A : Type 0} → (A → List ℕ → List ℕ → Type 0) → List A → List ℕ → List ℕ
     → Type 0
-TellsEach Tells [] told said = (told ≡ []) × (said ≡ [])
-TellsEach Tells (step ∷ steps) told said = (first : List ℕ) × (rest : List ℕ) × (one : List ℕ)
-    × (more : List ℕ) × Tells step first one × TellsEach Tells steps rest more
-    × (told ≡ first ++ rest) × (said ≡ one ++ more)
+ReportsEach Reports [] reported said = (reported ≡ [])
+    × (said ≡ [])
+ReportsEach Reports (step ∷ steps) reported said = (first : List ℕ) × (rest : List ℕ)
+    × (one : List ℕ)
+    × (more : List ℕ) × Reports step first one × ReportsEach Reports steps rest more
+    × (reported ≡ first ++ rest) × (said ≡ one ++ more)
 
 -- two listings are answered if both are
 abbrev pub ending_of_both : Ending → Ending → Ending
@@ -166,15 +169,15 @@ with_difference true Answered = Differs
 with_difference _ ending = ending
 
 abbrev pub ending_between : Wording → Named → Named → List ℕ → Ending
-ending_between wording before after told =
-    with_difference (wording.asks && not (is_empty told))
+ending_between wording before after reported =
+    with_difference (wording.asks && not (is_empty reported))
     (ending_of_both (ending_of (tally_of (items_before wording before)))
     (ending_of (tally_of (items_after wording before after))))
 
 -- the answer about two listings
 pub record IsChangeAnswer (wording : Wording) (before after : Named) (answer : Answer) : Type 0
   where
-    pub each : TellsEach (TellsStep wording before after) (steps_of before after) answer.text
+    pub each : ReportsEach (ReportsStep wording before after) (steps_of before after) answer.text
         answer.beside
     pub ending : answer.ending ≡ ending_between wording before after answer.text
 
@@ -182,7 +185,7 @@ pub record IsChangeAnswer (wording : Wording) (before after : Named) (answer : A
 pub record IsChangeBegun (wording : Wording) (before after : Named) (answer : Answer) : Type 0
   where
     pub count : ℕ
-    pub first : TellsEach (TellsStep wording before after) (take count (steps_of before after))
+    pub first : ReportsEach (ReportsStep wording before after) (take count (steps_of before after))
         answer.text answer.beside
 
 -- of a listing after with this name and these bytes, if they are known: of a block that is too long

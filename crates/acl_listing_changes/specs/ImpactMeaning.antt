@@ -1,4 +1,4 @@
--- What the fields of `impact` mean, of the lists of two listings.
+-- What the fields of `impact` mean, by the lists of two listings.
 use Rattle.std.specs.Prelude.{◌≡◌, ◌⊎◌, ◌||◌, ◌+◌, ℕ, Bool, true, false, not, List, Option}
 use Rattle.std.specs.Prelude.{Ok, codes, is_some, map}
 use Rattle.clap.specs.Words.{Row, Text, all_of}
@@ -18,12 +18,12 @@ use Rattle.acl_listing_changes.specs.Changes.{IsChangeAnswer, IsChangeBegun, Nam
 use Rattle.acl_listing_changes.specs.Changes.{Wording}
 use Rattle.acl_listing_changes.specs.Impacting.{Concern, ImpactAsking, impacting}
 
--- the words name users to ask about
+-- the words name users to evaluate
 abbrev pub names_users : List Row → Bool
 names_users rows = is_some (all_of (codes "user") rows)
 
--- Each who is asked about has a line if the words say so, or name these; somebody else has one only
--- if they name none.
+-- Each affected user has a line if the words say so, or name users; somebody else has one only if
+-- they name none.
 abbrev pub concern_in : List Person → List Row → Concern
 concern_in persons rows = record {
   persons = persons;
@@ -40,7 +40,8 @@ impact_asked host persons rows = record {
   asks = flag_in (codes "exit-code") rows;
 }
 
--- the files say who there is, the words whom they ask about, and the answer is what follows from it
+-- the files give users and groups, the words the users to evaluate, and the answer follows from
+-- both
 pub record ImpactAnswers (Is : Wording → Named → Named → Answer → Type 0)
     (bytes_of : Text → Option (List ℕ)) (input : Option (List ℕ)) (rows : List Row)
     (answer : Answer) : Type 0 where
@@ -52,8 +53,8 @@ pub record ImpactAnswers (Is : Wording → Named → Named → Answer → Type 0
       (bytes_named bytes_of input (before_in rows)) (after_in rows)
       (bytes_named bytes_of input (after_in rows)) answer
 
--- both listings are standard input; or they aren't, and the files don't say who there is, nobody is
--- asked about, or the listings fail
+-- both listings are standard input; or they aren't, and the accounts can't be read, the users are
+-- refused, or the listings fail
 abbrev pub FailsForImpact : (Text → Option (List ℕ)) → List Row → Failure → Type 0
 FailsForImpact bytes_of rows failure =
     ((failure ≡ Misuse InputTwice) × (is_input_twice (before_in rows) (after_in rows) ≡ true))

@@ -12,35 +12,35 @@ use Rattle.acl_people.specs.Host.{names_of_host}
 use Rattle.acl_people.specs.Person.{Person}
 use Rattle.acl_listing_changes.specs.ImpactText.{person_text}
 use Rattle.acl_listing_changes.specs.Concerns.{concern_by}
-use Rattle.acl_listing_changes.specs.Impacting.{ImpactAsking, TellsChange}
+use Rattle.acl_listing_changes.specs.Impacting.{ImpactAsking, ReportsChange}
 use Rattle.acl_listing_changes.specs.declared.impact.asked.One.{One}
-use Rattle.acl_listing_changes.specs.declared.impact.teller.ImpactTeller.{ImpactTeller}
+use Rattle.acl_listing_changes.specs.declared.impact.reporter.ImpactReporter.{ImpactReporter}
 
 abbrev pub view_one : One → Person
 view_one one = record { name = one.name.now; who = one.requester.now }
 
-abbrev pub asking_by : ImpactTeller → ImpactAsking
-asking_by teller = record {
-  names = names_of_host teller.host.now;
-  concern = concern_by teller.people.now teller.each teller.somebody;
-  written = teller.written;
-  asks = teller.asks;
+abbrev pub asking_by : ImpactReporter → ImpactAsking
+asking_by reporter = record {
+  names = names_of_host reporter.host.now;
+  concern = concern_by reporter.people.now reporter.each reporter.somebody;
+  written = reporter.written;
+  asks = reporter.asks;
 }
 
--- what is reported of a file, where this is what its block before says
-abbrev pub TellsRead : ImpactAsking → Result FileValue BlockFault → FileValue → List ℕ → Type 0
-TellsRead asking (Ok before) after text = TellsChange asking before after text
-TellsRead asking (Err fault) after text = text ≡ []
+-- what is reported for a file, where this is what its block before says
+abbrev pub ReportsRead : ImpactAsking → Result FileValue BlockFault → FileValue → List ℕ → Type 0
+ReportsRead asking (Ok before) after text = ReportsChange asking before after text
+ReportsRead asking (Err fault) after text = text ≡ []
 
 -- the line of somebody whom a change concerns, and of somebody whom it doesn't
-abbrev pub TellsBy : Bool → File → File → List ℕ → Person → List ℕ → Type 0
-TellsBy true before after path person text = (change : Change)
+abbrev pub ReportsBy : Bool → File → File → List ℕ → Person → List ℕ → Type 0
+ReportsBy true before after path person text = (change : Change)
     × IsChangeFor before after person.who change
     × (text ≡ person_text person (mask_bits change.lost) (mask_bits change.gained) path)
-TellsBy false before after path person text =
+ReportsBy false before after path person text =
     IsAlikeTo before after person.who × (text ≡ [])
 
 -- of who is at a place, if somebody is
-abbrev pub TellsAt : Bool → File → File → List ℕ → Option Person → List ℕ → Type 0
-TellsAt some before after path None text = (some ≡ false) × (text ≡ [])
-TellsAt some before after path (Some person) text = TellsBy some before after path person text
+abbrev pub ReportsAt : Bool → File → File → List ℕ → Option Person → List ℕ → Type 0
+ReportsAt some before after path None text = (some ≡ false) × (text ≡ [])
+ReportsAt some before after path (Some person) text = ReportsBy some before after path person text

@@ -8,7 +8,7 @@ use Rattle.acl_listings.specs.Listing.{Block}
 use Rattle.acl_listings.specs.declared.fault.BlockFault.{BlockFault}
 use Rattle.acl_reports.specs.Paths.{block_for, has_path}
 use Rattle.acl_reports.specs.Placed.{Placed, in_places}
-use Rattle.acl_listing_changes.specs.Changes.{TellsNext, fault_after}
+use Rattle.acl_listing_changes.specs.Changes.{ReportsNext, fault_after}
 use Rattle.acl_listing_changes.specs.Restoring.{block_text, restore_fault, restoring}
 
 -- the text of a block before, if it isn't too long and is another than this one
@@ -31,11 +31,12 @@ abbrev pub printed_text : Option (List ℕ) → List ℕ
 printed_text None = []
 printed_text (Some text) = block_text text
 
--- what is reported of a block after is the block that is printed for it
+-- what is reported for a block after is the block that is printed for it
 abbrev pub PrintsBlocks : Type 0
-PrintsBlocks = (name : List ℕ) (before : List Block) (placed : Placed Block) (told said : List ℕ)
-    → TellsNext restoring name before placed told said
-    → told ≡ printed_text (printed_for before placed)
+PrintsBlocks = (name : List ℕ) (before : List Block) (placed : Placed Block)
+    (reported said : List ℕ)
+    → ReportsNext restoring name before placed reported said
+    → reported ≡ printed_text (printed_for before placed)
 
 -- the texts of the blocks after, with each block that is printed in the place of the one after
 abbrev pub text_restored : List Block → Placed Block → List ℕ

@@ -1,4 +1,4 @@
--- What `restore` tells of the blocks of two listings.
+-- What `restore` reports for the blocks of two listings.
 use Rattle.std.specs.Prelude.{◌≡◌, ℕ, false, List, [], ◌++◌, Option, Some, None, bytes_eq}
 use Rattle.std.specs.Prelude.{codes, is_none, length, nat_le, unwrap_or, if◌then◌else◌}
 use Rattle.acl_names.specs.Names.{Names}
@@ -36,9 +36,9 @@ abbrev pub restoring : Wording
 restoring = record {
   names = no_names;
   fault = restore_fault;
-  IsNew = λ text told said. (told ≡ []) × (said ≡ path_line text (codes "new"));
-  IsChanged = λ old new told said. (told ≡ restored_text old new) × (said ≡ []);
-  IsGone = λ old told said. (told ≡ []) × (said ≡ path_line old (codes "gone"));
+  IsNew = λ text reported said. (reported ≡ []) × (said ≡ path_line text (codes "new"));
+  IsChanged = λ old new reported said. (reported ≡ restored_text old new) × (said ≡ []);
+  IsGone = λ old reported said. (reported ≡ []) × (said ≡ path_line old (codes "gone"));
   apart = λ first second. [];
   asks = false;
 }

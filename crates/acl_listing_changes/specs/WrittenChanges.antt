@@ -1,4 +1,4 @@
--- What is written otherwise in two blocks of one path, as they are read.
+-- What differs between two blocks of one path, as they are read.
 use Rattle.std.specs.Prelude.{◌≡◌, ◌≢◌, ◌↔◌, ◌||◌, ◌&&◌, Bool, true, false, IsTrue, ℕ, List, []}
 use Rattle.std.specs.Prelude.{◌∷◌, ◌++◌, Option, None, codes, if◌then◌else◌}
 use Rattle.acl_names.specs.Bytes.{comma}
@@ -46,12 +46,12 @@ changed_words changed = word_if changed.owner false (codes "owner")
     ++ word_if changed.default
     (changed.owner || changed.group || changed.flags || changed.access) (codes "default")
 
--- `changed WHAT PATH`, if anything is, and the line is asked for
+-- `changed WHAT PATH`, if anything differs and the words ask for the line
 abbrev pub changed_text : Bool → Changed → List ℕ → List ℕ
 changed_text asked changed path = if asked && is_changed changed
     then codes "changed " ++ changed_words changed ++ codes " " ++ path ++ codes "\n" else []
 
 -- the text is that line
-abbrev pub TellsWritten : Bool → FileValue → FileValue → List ℕ → Type 0
-TellsWritten asked before after text = (changed : Changed) × IsChanged before after changed
+abbrev pub ReportsWritten : Bool → FileValue → FileValue → List ℕ → Type 0
+ReportsWritten asked before after text = (changed : Changed) × IsChanged before after changed
     × (text ≡ changed_text asked changed (printed_path after.path))

@@ -4,7 +4,7 @@ mod asked;
 mod changed;
 mod command;
 mod concerned;
-mod teller;
+mod reporter;
 
 pub use asked::push_person_at;
-pub use command::{each_has_a_line, tell_impact};
+pub use command::{each_has_a_line, report_impact};

@@ -1,4 +1,4 @@
-//! The lines of `impact`, of listings and of trees.
+//! The lines of `impact`.
 ghost use Rattle.std.specs.Prelude.{◌≡◌, ◌++◌, OnOk, codes, decimal};
 ghost use Rattle.acl_nfs4.specs.Mask.{mask_bits};
 ghost use Rattle.acl_queries.specs.Differences.{bits_text, gids_text};
@@ -28,7 +28,7 @@ fn push_all_gids(gids: &[Gid], out: &mut Vec<u8>) -> Result<(), AllocError>
     Ok(())
 }
 
-/// Appends the first fields of a line: whom it concerns.
+/// Appends a line's first fields: the user.
 fn push_who(name: &[u8], uid: Uid, out: &mut Vec<u8>) -> Result<(), AllocError>
     ensures { OnOk result (out.new.items
         ≡ out.old.items ++ (codes "differ " ++ name.now ++ codes " " ++ decimal uid ++ codes " ")) }
@@ -41,7 +41,7 @@ fn push_who(name: &[u8], uid: Uid, out: &mut Vec<u8>) -> Result<(), AllocError>
     Ok(())
 }
 
-/// Appends the last fields: what is lost and gained, and where.
+/// Appends a line's last fields: what is lost and gained, and the path.
 fn push_what(lost: Mask, gained: Mask, path: &[u8], out: &mut Vec<u8>) -> Result<(), AllocError>
     ensures { OnOk result (out.new.items ≡ out.old.items
         ++ (codes " " ++ bits_text (mask_bits lost) ++ codes " " ++ bits_text (mask_bits gained)
@@ -57,8 +57,7 @@ fn push_what(lost: Mask, gained: Mask, path: &[u8], out: &mut Vec<u8>) -> Result
     Ok(())
 }
 
-/// Appends the line of one who is asked about, `differ NAME UID GIDS LOST GAINED PATH`. Fails only
-/// if memory runs out.
+/// Appends a user's line, `differ NAME UID GIDS LOST GAINED PATH`. Fails only if memory runs out.
 pub(crate) fn push_person(
     name: &[u8],
     requester: &Requester,
@@ -75,7 +74,8 @@ pub(crate) fn push_person(
     push_what(lost, gained, path, out)
 }
 
-/// Appends the line of somebody else, whose name is `-`. Fails only if memory runs out.
+/// Appends the line of somebody who is none of the users, with the name `-`. Fails only if memory
+/// runs out.
 pub(crate) fn push_somebody(
     asker: Asker,
     lost: Mask,
@@ -111,7 +111,7 @@ fn push_gone(path: &[u8], out: &mut Vec<u8>) -> Result<(), AllocError>
     Ok(())
 }
 
-/// Appends the line of a path that is gone, or else new.
+/// Appends the line of a path that is gone, or new. Fails only if memory runs out.
 pub fn push_path(gone: bool, path: &[u8], out: &mut Vec<u8>) -> Result<(), AllocError>
     ensures { OnOk result (out.new.items ≡ out.old.items ++ path_text gone path.now) }
 {
@@ -122,7 +122,8 @@ pub fn push_path(gone: bool, path: &[u8], out: &mut Vec<u8>) -> Result<(), Alloc
     }
 }
 
-/// Appends the line that says that no path is in both listings, whose first paths these are.
+/// Appends the line for listings without a common path, with the first path of each. Fails only if
+/// memory runs out.
 pub fn push_apart(first: &[u8], second: &[u8], beside: &mut Vec<u8>) -> Result<(), AllocError>
     ensures { OnOk result (beside.new.items ≡ beside.old.items ++ apart_line first.now second.now) }
 {

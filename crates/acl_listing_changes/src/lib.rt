@@ -1,5 +1,5 @@
-//! What two listings of real files differ in: for whom a change of lists matters, and what brings
-//! the files back.
+//! Changes between two listings of real files: who gains or loses access, and what restores the
+//! files.
 #![tactic(auto)]
 
 mod between;
@@ -12,7 +12,7 @@ pub use between::{
     after_field, before_field, ending_of_both, is_input_twice, open_listing, unless_repeated,
     with_difference,
 };
-pub use impact::{each_has_a_line, push_person_at, tell_impact};
+pub use impact::{each_has_a_line, push_person_at, report_impact};
 pub use impact_lines::{push_apart, push_path};
 pub use laws::alike_laws;
 pub use restore::{Restore, restore_brings_back};

@@ -3,7 +3,7 @@
 mod command;
 mod laws;
 mod no_names;
-mod teller;
+mod reporter;
 
 pub use command::Restore;
 pub use laws::restore_brings_back;

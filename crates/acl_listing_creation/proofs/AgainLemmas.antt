@@ -1,4 +1,4 @@
--- What is told of a listing is read again: its files, and behind each folder what is created in it.
+-- What is reported for a listing is read again: its files, and behind each folder what is created in it.
 use Rattle.std.proofs.Common.{◌≡◌, ◌∙◌, ◌≤◌, ◌+◌, ℕ, Bool, true, false, cond, nat_le, List, [], ◌∷◌, ◌++◌, All, IfOk, Result, Ok, Err, ap, append_assoc, arith, length, map, refl, subst, sym}
 use Rattle.std.specs.List.{cons_option}
 use Rattle.std.proofs.lemmas.Bool.Decides.{nat_tests}
@@ -20,14 +20,14 @@ use Rattle.acl_listings.specs.declared.limits.TheConstants.{MAX_BLOCK}
 use Rattle.acl_listings.proofs.ListingLemmas.{blocks-empty_line, blocks-first}
 use Rattle.acl_listing_creation.specs.Created.{created_in, created_text, flags_in, group_in, if_short, lists_in, next_block, next_in}
 use Rattle.acl_listing_creation.specs.Next.{NextAsking, Reading, reading_of}
-use Rattle.acl_listing_creation.specs.NextLaws.{Answered, IsPrintable, SaysEachFolder, answered, files_told, if_answered, is_folder, with_next}
+use Rattle.acl_listing_creation.specs.NextLaws.{Answered, IsPrintable, SaysEachFolder, answered, files_reported, if_answered, is_folder, with_next}
 use Rattle.acl_listing_creation.proofs.CreatedLemmas.{IsBlockOf, block_by, only_group}
 
--- a block that is told is no longer than one may be
-short_told : (text told : List ℕ) → if_short text ≡ Ok told → (length text ≤ MAX_BLOCK + 2) × (told ≡ text)
-short_told text told is = go (nat_le (length text) (MAX_BLOCK + 2)) refl is
+-- a block that is reported is no longer than one may be
+short_reported : (text reported : List ℕ) → if_short text ≡ Ok reported → (length text ≤ MAX_BLOCK + 2) × (reported ≡ text)
+short_reported text reported is = go (nat_le (length text) (MAX_BLOCK + 2)) refl is
   where
-    go : (b : Bool) → nat_le (length text) (MAX_BLOCK + 2) ≡ b → cond b (Ok text) (Err TooLong) ≡ Ok told → (length text ≤ MAX_BLOCK + 2) × (told ≡ text)
+    go : (b : Bool) → nat_le (length text) (MAX_BLOCK + 2) ≡ b → cond b (Ok text) (Err TooLong) ≡ Ok reported → (length text ≤ MAX_BLOCK + 2) × (reported ≡ text)
     go true fits is = (grind (arith, nat_tests, fits), cc)
     go false fits is = cc
 
@@ -70,17 +70,17 @@ module _ (asking : NextAsking) (numbers : ReadNumbers asking.names) where
     pub file : file_by asking.names block.text ≡ Ok block.reading.file
     pub created : FileValue
     pub created_is : created_in asking.creation block.reading.file ≡ Ok created
-    pub told : IsBlockOf asking.names numbers created
-    pub next : block.reading.next ≡ told.block ++ newline ∷ newline ∷ []
+    pub reported : IsBlockOf asking.names numbers created
+    pub next : block.reading.next ≡ reported.block ++ newline ∷ newline ∷ []
 
   made : (block : Answered) → IsKnown block → IsMade block
   made block known =
       let creation = asking.creation in
       let (file, said, of_file) = bind_ok (file_by asking.names block.text) (λ file. next_block creation file >>= (λ next. Ok (record { file = file; next = next }))) block.reading known.is in
-      let (next, told, of_next) = bind_ok (next_block creation file) (λ next. Ok (record { file = file; next = next })) block.reading of_file in
+      let (next, reported, of_next) = bind_ok (next_block creation file) (λ next. Ok (record { file = file; next = next })) block.reading of_file in
       let file_is : file ≡ block.reading.file = cc in
       let next_is : next ≡ block.reading.next = cc in
-      let (created, created_is, short_is) = bind_ok (created_in creation file) (λ file. if_short (created_text file)) next told in
+      let (created, created_is, short_is) = bind_ok (created_in creation file) (λ file. if_short (created_text file)) next reported in
       let (lists, listed, of_lists) = bind_ok (lists_in creation file.lists) (λ lists. Ok (record {
         path = next_in file.path;
         owner = creation.owner;
@@ -88,17 +88,17 @@ module _ (asking : NextAsking) (numbers : ReadNumbers asking.names) where
         flags = flags_in creation.kind file.flags;
         lists = lists;
       })) created created_is in
-      let short = short_told (created_text created) next short_is in
+      let short = short_reported (created_text created) next short_is in
       let flags = flags_are creation.kind file.flags in
       let there : created_in creation block.reading.file ≡ Ok created = ap (created_in creation) (sym file_is) ∙ created_is in
       let printable : IsPrintable created = subst (λ (made : Result FileValue BlockFault). IfOk made IsPrintable) there known.printable in
-      let told_block = block_by asking.names numbers created printable flags.0 (sym (ap flags_or of_lists) ∙ flags.1) short.0 in
+      let reported_block = block_by asking.names numbers created printable flags.0 (sym (ap flags_or of_lists) ∙ flags.1) short.0 in
       record {
         file = said ∙ ap (λ (file : FileValue). Ok file) file_is;
         created = created;
         created_is = there;
-        told = told_block;
-        next = sym next_is ∙ short.1 ∙ told_block.cut;
+        reported = reported_block;
+        next = sym next_is ∙ short.1 ∙ reported_block.cut;
       }
 
   read : Block → Result FileValue BlockFault
@@ -116,18 +116,18 @@ module _ (asking : NextAsking) (numbers : ReadNumbers asking.names) where
 
   -- what stands behind a block
   says_behind : (block : Answered) (is : IsMade block) (behind : List Answered)
-      → ((n : ℕ) → map (λ block. file_by asking.names block.text) (blocks_from n (with_next asking behind)) ≡ files_told asking behind)
+      → ((n : ℕ) → map (λ block. file_by asking.names block.text) (blocks_from n (with_next asking behind)) ≡ files_reported asking behind)
       → (b : Bool) (n : ℕ) → map (λ block. file_by asking.names block.text) (blocks_from n (cond b block.reading.next [] ++ with_next asking behind))
-      ≡ cond b (created_in asking.creation block.reading.file ∷ []) [] ++ files_told asking behind
+      ≡ cond b (created_in asking.creation block.reading.file ∷ []) [] ++ files_reported asking behind
   says_behind block is behind rest false n = rest n
   says_behind block is behind rest true n =
-      let after = n + newlines_in is.told.block + 1 + 1 in
+      let after = n + newlines_in is.reported.block + 1 + 1 in
       ap (λ next. map (λ block. file_by asking.names block.text) (blocks_from n (next ++ with_next asking behind))) is.next
-      ∙ read_first n is.told.block (with_next asking behind) is.told.full
-      ∙ ap (λ (read : Result FileValue BlockFault). read ∷ map (λ block. file_by asking.names block.text) (blocks_from after (with_next asking behind))) (is.told.says ∙ sym is.created_is)
+      ∙ read_first n is.reported.block (with_next asking behind) is.reported.full
+      ∙ ap (λ (read : Result FileValue BlockFault). read ∷ map (λ block. file_by asking.names block.text) (blocks_from after (with_next asking behind))) (is.reported.says ∙ sym is.created_is)
       ∙ ap (λ more. created_in asking.creation block.reading.file ∷ more) (rest after)
 
-  says : (n : ℕ) (blocks : List Answered) → All IsKnown blocks → map (λ block. file_by asking.names block.text) (blocks_from n (with_next asking blocks)) ≡ files_told asking blocks
+  says : (n : ℕ) (blocks : List Answered) → All IsKnown blocks → map (λ block. file_by asking.names block.text) (blocks_from n (with_next asking blocks)) ≡ files_reported asking blocks
   says n [] each = refl
   says n (block ∷ behind) each =
       let known = All-head IsKnown block behind each in

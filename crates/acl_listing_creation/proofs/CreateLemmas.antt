@@ -1,4 +1,4 @@
--- `create` of a tree makes what `next` tells.
+-- `create` of a tree makes what `next` reports.
 use Rattle.std.proofs.Common.{Bool, true, false, cond, List, Ok, Err, length, nat_lt, refl, Some, None}
 use Rattle.acl_posix.specs.Entry.{EntryValue}
 use Rattle.acl_posix.specs.declared.acl_text.AclFault.TheVariants as acl

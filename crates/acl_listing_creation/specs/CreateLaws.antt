@@ -1,4 +1,4 @@
--- What `next` tells of a folder, beside what `create` makes in a tree.
+-- What `next` prints for a folder, compared with what `create` makes in a tree.
 use Rattle.std.specs.Prelude.{◌≡◌, Result, Ok, Err}
 use Rattle.acl_posix.specs.Mode.{Classes}
 use Rattle.acl_posix.specs.declared.acl_text.AclFault.TheVariants as acl
@@ -20,18 +20,18 @@ abbrev pub lists_of : NodeAcl → Lists
 lists_of (Posix access default) = lists.Posix access default
 lists_of (Nfs4 acl) = lists.Nfs4 acl
 
--- the mode with which `create` is called: in a folder with an NFSv4 list that hands nothing on the
--- umask is taken from it before
+-- the mode with which `create` is called: in a folder with an NFSv4 list that passes nothing on,
+-- without the umask's bits
 abbrev pub mode_called : Creation → NodeAcl → Classes
 mode_called creation (Posix access default) = creation.mode
 mode_called creation (Nfs4 acl) = mode_on creation (inherited_list creation.kind acl)
 
--- the lists that `create` makes are those that are told, and it refuses a list that is too long
--- where that is refused
+-- the lists that `create` makes are those that are printed, and it refuses a list that is too long
+-- exactly if `next` does
 abbrev pub AreAlike : Outcome NodeAcl → Result Lists BlockFault → Type 0
-AreAlike (Ok made) told = told ≡ Ok (lists_of made)
-AreAlike (Err TooMany) told = told ≡ Err (Acl acl.TooMany)
-AreAlike (Err fault) told = ⊥
+AreAlike (Ok made) reported = reported ≡ Ok (lists_of made)
+AreAlike (Err TooMany) reported = reported ≡ Err (Acl acl.TooMany)
+AreAlike (Err fault) reported = ⊥
 
 abbrev pub CreatesAlike : Creation → NodeAcl → Type 0
 CreatesAlike creation acl =

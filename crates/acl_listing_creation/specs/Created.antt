@@ -1,4 +1,4 @@
--- What somebody gets by creating a file or a folder in a folder of a listing.
+-- What a user gets by creating a file or a folder in a folder of a listing.
 use Rattle.std.specs.Prelude.{ℕ, Bool, ◌+◌, ◌-◌, nat_le, nat_lt, List, [], ◌∷◌}
 use Rattle.std.specs.Prelude.{◌++◌, length, drop, Option, Some, None, Result, Ok, Err, bytes_eq}
 use Rattle.std.specs.Prelude.{codes, if◌then◌else◌}
@@ -29,7 +29,7 @@ use Rattle.acl_listing_creation.specs.declared.creation.Creation.{Creation}
 
 -- ---- the lists
 
--- the mode without what the umask has
+-- the mode without the umask's bits
 abbrev pub beyond_umask : Classes → Classes → Classes
 beyond_umask mode umask = record {
   user = without mode.user umask.user;
@@ -51,8 +51,8 @@ mode_on creation (first ∷ more) = creation.mode
 abbrev pub as_nfs4 : List Nfsace4 → Result Lists BlockFault
 as_nfs4 aces = if nat_lt MAX_ACES (length aces) then Err (Acl TooMany) else Ok (Nfs4 aces)
 
--- The lists of what is created in a folder with these: by the mode beyond the umask; by the default
--- list, if there is one; or by what is inherited, with the mode set.
+-- The lists of what is created in a folder with these: by the mode without the umask's bits; by the
+-- default list, if there is one; or by what is inherited, with the mode set.
 abbrev pub lists_in : Creation → Lists → Result Lists BlockFault
 lists_in creation (Posix access None) =
     Ok (Posix (of_mode (beyond_umask creation.mode creation.umask)) None)
@@ -71,17 +71,17 @@ ends_with_slash path = bytes_eq (drop (length path - 1) path) (codes "/")
 abbrev pub next_in : List ℕ → List ℕ
 next_in path = path ++ (if ends_with_slash path then codes "next" else codes "/next")
 
--- the group of what is created: that of a folder that hands it on
+-- the group of what is created: the folder's, if that passes it on
 abbrev pub group_in : Creation → FileValue → ℕ
 group_in creation folder =
     if folder.flags.set_group_id then folder.group else creation.group
 
--- and a new folder hands it on too
+-- and a new folder passes it on, too
 abbrev pub flags_in : Kind → FileFlags → FileFlags
 flags_in Dir flags = record no_flags { set_group_id = flags.set_group_id }
 flags_in File flags = no_flags
 
--- what is created in a folder, by the name of `next`
+-- what is created in a folder, with the name `next`
 abbrev pub created_in : Creation → FileValue → Result FileValue BlockFault
 created_in creation folder = do
   lists ← lists_in creation folder.lists
@@ -95,7 +95,7 @@ created_in creation folder = do
 
 -- ---- its block, with ids in decimal
 
--- the line of the flags, of which the group's alone may be set
+-- the line of the flags, of which only the group's may be set
 abbrev pub flags_text : FileFlags → List ℕ
 flags_text flags =
     if flags.set_group_id then line_text (codes "# flags: ") (codes "-s-") else []

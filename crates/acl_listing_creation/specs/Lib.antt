@@ -1,5 +1,4 @@
 pub mod Created
-pub mod Folders
 pub mod Next
 pub mod NextLine
 pub mod NextFields

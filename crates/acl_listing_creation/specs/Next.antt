@@ -1,4 +1,4 @@
--- What `next` tells of the blocks of a listing: each of them, and behind a folder's the block of
+-- What `next` prints for the blocks of a listing: each of them, and after a folder's the block of
 -- what would be created in it.
 use Rattle.std.specs.Prelude.{ℕ, Bool, ◌||◌, List, [], ◌∷◌, ◌++◌, fold, Option, Some, None}
 use Rattle.std.specs.Prelude.{Result, Ok, Err, if◌then◌else◌}
@@ -10,16 +10,16 @@ use Rattle.acl_listings.specs.Way.{is_above}
 use Rattle.acl_listings.specs.declared.fault.BlockFault.{BlockFault}
 use Rattle.acl_reports.specs.Listed.{Part}
 use Rattle.acl_listing_creation.specs.Created.{next_block}
-use Rattle.acl_listing_creation.specs.Folders.{says_folder}
+use Rattle.acl_listings.specs.Folders.{says_folder}
 use Rattle.acl_listing_creation.specs.declared.creation.Creation.{Creation}
 
--- by which names blocks are read, what is created, and whether each block is a folder's
+-- the names that blocks have, what is created, and whether each block is a folder's
 pub record NextAsking : Type 0 where
   pub names : Names
   pub creation : Creation
   pub folders_alone : Bool
 
--- what a block says, and the block that stands behind it if it is a folder's
+-- the file of a block, and the block to print after it if it is a folder's
 pub record Reading : Type 0 where
   pub file : FileValue
   pub next : List ℕ
@@ -30,11 +30,11 @@ reading_of asking text = do
   next ← next_block asking.creation file
   Ok (record { file = file; next = next })
 
--- it is known to be a folder's whatever stands behind it
+-- it is known to be a folder's whatever comes after it
 abbrev pub is_known_folder : NextAsking → Reading → Bool
 is_known_folder asking reading = asking.folders_alone || says_folder reading.file
 
--- a file that is a folder if what stands behind it lies below it, and the block to tell then
+-- a file that is a folder if the next block is below it, and the block to print then
 pub record Pending : Type 0 where
   pub path : List ℕ
   pub next : List ℕ
@@ -43,31 +43,31 @@ abbrev pub if_unknown : Bool → Reading → Option Pending
 if_unknown known reading = if known then None
     else Some (record { path = reading.file.path; next = reading.next })
 
--- what is known of the last block behind one more: a block that isn't answered tells nothing
+-- the pending file after another block: a block that can't be evaluated changes nothing
 abbrev pub pending_after : NextAsking → Option Pending → Result Reading BlockFault → Option Pending
 pending_after asking pending (Err fault) = pending
 pending_after asking pending (Ok reading) = if_unknown (is_known_folder asking reading) reading
 
--- behind these texts
+-- after these texts
 abbrev pub pending_behind : NextAsking → List (List ℕ) → Option Pending
 pending_behind asking earlier =
     fold (λ pending text. pending_after asking pending (reading_of asking text)) None earlier
 
--- what is told of it before a block with this path
-abbrev pub told_before : Option Pending → List ℕ → List ℕ
-told_before None path = []
-told_before (Some pending) path = if is_above pending.path path then pending.next else []
+-- what is printed for it before a block with this path
+abbrev pub reported_before : Option Pending → List ℕ → List ℕ
+reported_before None path = []
+reported_before (Some pending) path = if is_above pending.path path then pending.next else []
 
--- a block as it stands, and an empty line
+-- a block, unchanged, and an empty line
 abbrev pub as_it_stands : List ℕ → List ℕ
 as_it_stands text = text ++ newline ∷ newline ∷ []
 
--- what is told of a block: it stands there as it is
-abbrev pub told_at : NextAsking → Option Pending → List ℕ → Reading → List ℕ
-told_at asking pending text reading = told_before pending reading.file.path
+-- what is printed for a block: the block itself, unchanged
+abbrev pub reported_at : NextAsking → Option Pending → List ℕ → Reading → List ℕ
+reported_at asking pending text reading = reported_before pending reading.file.path
     ++ (as_it_stands text ++ (if is_known_folder asking reading then reading.next else []))
 
 abbrev pub next_part : NextAsking → List (List ℕ) → List ℕ → Part
 next_part asking earlier text = do
   reading ← reading_of asking text
-  Ok (told_at asking (pending_behind asking earlier) text reading)
+  Ok (reported_at asking (pending_behind asking earlier) text reading)

@@ -1,4 +1,4 @@
--- What the fields of `next` say, each by itself.
+-- What the fields of `next` mean, each by itself.
 use Rattle.std.specs.Prelude.{◌≡◌, ⊤, ℕ, List, [], ◌∷◌, Option, Some, None, Result, Ok, Err}
 use Rattle.std.specs.Prelude.{codes, if◌then◌else◌}
 use Rattle.clap.specs.Words.{Row, Text, first_of}
@@ -26,16 +26,16 @@ use Rattle.acl_listing_creation.specs.declared.modes.Modes.{Modes}
 abbrev pub kind_in : List Row → Kind
 kind_in rows = if flag_in (codes "dir") rows then Dir else File
 
--- the mode that a program asks for unless it says otherwise
+-- the mode that programs usually request
 abbrev pub usual_mode : Kind → Classes
 usual_mode File = record { user = 6; group = 6; other = 6 }
 usual_mode Dir = record { user = 7; group = 7; other = 7 }
 
--- and the umask of one that sets none
+-- and the umask that they usually have
 abbrev pub usual_umask : Classes
 usual_umask = record { user = 0; group = 2; other = 2 }
 
--- three octal digits, or what is meant without them
+-- three octal digits, or the usual mode without them
 abbrev pub mode_of : List ℕ → Classes → Option Text → Result Classes Refusal
 mode_of place usual None = Ok usual
 mode_of place usual (Some text) =
@@ -55,7 +55,7 @@ ExplainsRefusal reading _ = ⊥
 
 -- ---- who creates it
 
--- somebody of whom no group is known makes a file of which nobody knows the group
+-- a user in no group would make a file whose group isn't known
 abbrev pub maker_by : ℕ → List ℕ → Result Maker FieldFault
 maker_by uid [] = Err UnknownUser
 maker_by uid (first ∷ more) = Ok (record { owner = uid; group = first })
@@ -66,6 +66,6 @@ maker_of person = maker_by person.who.uid person.who.gids
 abbrev pub maker_asked : Host → Text → Result Maker FieldFault
 maker_asked host text = person_asked host text >>= maker_of
 
--- the one whom `--user` names
+-- the user whom `--user` names
 abbrev pub maker_in : Host → List Row → Result Maker Malformed
 maker_in host = of_option (codes "user") (given UnknownUser (maker_asked host))

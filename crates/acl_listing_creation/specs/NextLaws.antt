@@ -1,4 +1,4 @@
--- What `next` tells of a listing as a whole.
+-- What `next` prints for a listing as a whole.
 use Rattle.std.specs.Prelude.{◌≡◌, ◌<◌, ◌≤◌, ◌==◌, ℕ, Bool, false, ◌||◌, List, [], ◌∷◌, ◌++◌}
 use Rattle.std.specs.Prelude.{All, IfOk, Option, Some, None, Result, Ok, Err, filter_map, length}
 use Rattle.std.specs.Prelude.{map, if◌then◌else◌}
@@ -11,13 +11,13 @@ use Rattle.acl_listings.specs.Listing.{Block, blocks_of}
 use Rattle.acl_listings.specs.Numbered.{ArePrintable, said_of}
 use Rattle.acl_listings.specs.Way.{is_above}
 use Rattle.acl_listings.specs.declared.fault.BlockFault.{BlockFault}
-use Rattle.acl_reports.specs.Listed.{items_after, told}
+use Rattle.acl_reports.specs.Listed.{items_after, reported}
 use Rattle.acl_listing_creation.specs.Created.{created_in}
 use Rattle.acl_listing_creation.specs.Next.{NextAsking, Reading, as_it_stands, is_known_folder}
 use Rattle.acl_listing_creation.specs.Next.{next_part, reading_of}
 use Rattle.acl_listing_creation.specs.declared.creation.Creation.{Creation}
 
--- a block that is answered, and what it says
+-- a block that can be evaluated, and its file
 pub record Answered : Type 0 where
   pub text : List ℕ
   pub reading : Reading
@@ -26,35 +26,35 @@ abbrev pub if_answered : List ℕ → Result Reading BlockFault → Option Answe
 if_answered text (Ok reading) = Some (record { text = text; reading = reading })
 if_answered text (Err fault) = None
 
--- those of the blocks that are answered, in their order
+-- the blocks that can be evaluated, in their order
 abbrev pub answered : NextAsking → List Block → List Answered
 answered asking blocks =
     filter_map (λ block. if_answered block.text (reading_of asking block.text)) blocks
 
--- the first of them lies below the path
+-- the first of them is below the path
 abbrev pub begins_below : List ℕ → List Answered → Bool
 begins_below path [] = false
 begins_below path (first ∷ more) = is_above path first.reading.file.path
 
--- A block is a folder's if it says so itself, or if the next that is answered lies below it.
+-- A block is a folder's if it shows that itself, or if the next that can be evaluated is below it.
 abbrev pub is_folder : NextAsking → Reading → List Answered → Bool
 is_folder asking reading behind =
     is_known_folder asking reading || begins_below reading.file.path behind
 
--- each block as it stands, and behind a folder's that of what would be created in it
+-- each block unchanged, and after a folder's that of what would be created in it
 abbrev pub with_next : NextAsking → List Answered → List ℕ
 with_next asking [] = []
 with_next asking (block ∷ behind) = as_it_stands block.text
     ++ ((if is_folder asking block.reading behind then block.reading.next else [])
     ++ with_next asking behind)
 
--- this is told of the blocks of a listing
-abbrev pub TellsEachFolder : NextAsking → List Block → Type 0
-TellsEachFolder asking blocks =
-    told (items_after (next_part asking) [] blocks) ≡ with_next asking (answered asking blocks)
+-- this is printed for the blocks of a listing
+abbrev pub ReportsEachFolder : NextAsking → List Block → Type 0
+ReportsEachFolder asking blocks =
+    reported (items_after (next_part asking) [] blocks) ≡ with_next asking (answered asking blocks)
 
--- a file that is told so that it is read again: the path is one line and not empty, ids are ids,
--- and it has lists that are printed so
+-- a file whose text is read again: the path is one line and not empty, ids are ids, and its lists'
+-- text is read again
 pub record IsPrintable (file : FileValue) : Type 0 where
   pub path : 0 < length file.path
   pub one_line : All (λ byte. (byte == newline) ≡ false) file.path
@@ -63,23 +63,24 @@ pub record IsPrintable (file : FileValue) : Type 0 where
   pub lists : ArePrintable file.lists
   pub some : said_of file ≡ Ok file
 
--- what is created in folders is so
+-- what is created in folders is such a file
 abbrev pub CreatesPrintable : Creation → List Answered → Type 0
 CreatesPrintable creation blocks =
     All (λ block. IfOk (created_in creation block.reading.file) IsPrintable) blocks
 
--- the files that are told: those of the listing, and behind each folder what is created in it
-abbrev pub files_told : NextAsking → List Answered → List (Result FileValue BlockFault)
-files_told asking [] = []
-files_told asking (block ∷ behind) = Ok block.reading.file
+-- the files that are printed: those of the listing, and after each folder what is created in it
+abbrev pub files_reported : NextAsking → List Answered → List (Result FileValue BlockFault)
+files_reported asking [] = []
+files_reported asking (block ∷ behind) = Ok block.reading.file
     ∷ ((if is_folder asking block.reading behind
-    then created_in asking.creation block.reading.file ∷ [] else []) ++ files_told asking behind)
+    then created_in asking.creation block.reading.file ∷ [] else [])
+    ++ files_reported asking behind)
 
--- What is told of blocks, which have no empty lines, is read again as these files.
+-- What is printed for blocks without empty lines is read as these files.
 abbrev pub SaysEachFolder : NextAsking → List Block → Type 0
 SaysEachFolder asking blocks = ReadNumbers asking.names
     → All (λ block. HasFullLines block.text) blocks
     → CreatesPrintable asking.creation (answered asking blocks)
     → map (λ block. file_by asking.names block.text)
     (blocks_of (with_next asking (answered asking blocks)))
-    ≡ files_told asking (answered asking blocks)
+    ≡ files_reported asking (answered asking blocks)

@@ -17,7 +17,7 @@ use Rattle.acl_listing_creation.specs.NextFields.{modes_in}
 use Rattle.acl_listing_creation.specs.declared.maker.Maker.{Maker}
 use Rattle.acl_listing_creation.specs.declared.modes.Modes.{Modes}
 
--- what is asked of a listing by these words, of this host and this maker, with these modes
+-- what `next` evaluates for these words, of this host and this maker, with these modes
 abbrev pub asking_by : List Row → Host → Maker → Modes → NextAsking
 asking_by rows host maker modes = record {
   names = names_of_host host;
@@ -31,7 +31,7 @@ asking_by rows host maker modes = record {
   folders_alone = flag_in (codes "dirs-only") rows;
 }
 
--- the files say who there is, the words who creates what, and the answer is what follows from it
+-- the files give users and groups, the words what a user creates, and the answer follows from both
 pub record NextAnswers (Is : Text → Names → (List (List ℕ) → List ℕ → Part)
     → Option (List ℕ) → Answer → Type 0) (bytes_of : Text → Option (List ℕ))
     (input : Option (List ℕ)) (rows : List Row) (answer : Answer) : Type 0 where
@@ -45,7 +45,7 @@ pub record NextAnswers (Is : Text → Names → (List (List ℕ) → List ℕ �
       (next_part (asking_by rows host maker modes)) (bytes_named bytes_of input (listing_in rows))
       answer
 
--- a mode is malformed; or none is, and the files don't say who there is, nobody creates, or the
+-- a mode is malformed; or none is, and the accounts can't be read, the user is refused, or the
 -- listing fails
 abbrev pub FailsForNext : (Text → Option (List ℕ)) → List Row → Failure → Type 0
 FailsForNext bytes_of rows failure = ExplainsRefusal (modes_in rows) failure

@@ -3,7 +3,7 @@
 use crate::creation::Creation;
 use crate::maker::maker_field;
 use crate::modes::{kind_field, modes_field};
-use crate::teller::NextTeller;
+use crate::reporter::NextReporter;
 use acl_cli::fields::flag_field;
 use acl_cli::{
     Command as CliCommand, CommandLine, Ending, ErrorOutput, Failure, Given, Line, OpenFiles, Word,
@@ -11,63 +11,64 @@ use acl_cli::{
 use acl_people::options::{ACCOUNTS, DOMAIN};
 use acl_people::read_host;
 use acl_reports::options::LISTING;
-use acl_reports::{listing_field, tell_named};
+use acl_reports::{listing_field, report_named};
 use clap::ArgMatches;
 use std::alloc::Global;
 use std::io::{Read, Write};
 
-/// What is reported, and what the exit statuses are.
+/// The end of help: the answer, and the exit statuses.
 const ANSWERS: &str = "For example, who could read what alice writes next:
   getfacl -Rnp /srv/share > l
   aclctl next --user alice l | aclctl who --reach --perms r - | grep '/next$'
 
-The listing again, and behind each folder's block that of FOLDER/next, which
-alice would get by creating it there: hers, with her first group or that of a
-folder with the flag s, and with the entries that the folder hands on, or else
-by the mode and the umask. Whether she may create it isn't asked. A folder is a
-block with flags or a default list, or before one that lies below it. What
-isn't answered is said on standard error: aclctl: LISTING:LINE: WORD: TEXT.
+Prints the listing, and after each folder's block that of FOLDER/next, as alice
+would create it there. She owns it; its group is the folder's if that has the
+flag s, else her first. Its list is what it inherits from the folder, limited by
+the mode; if it inherits nothing, it is that of the mode without the umask's
+bits. next doesn't check whether she may create it. A folder is a block with
+flags or a default list, or directly before one below it. Blocks that can't be
+evaluated go to standard error: aclctl: LISTING:LINE: WORD: TEXT.
 
-Exit status: 0 if every file was answered; 1 if a field is malformed or a file
+Exit status: 0 if every file was evaluated; 1 if a field is malformed or a file
 can't be read; 2 if the words are wrong; 3 if memory runs out, the listing
-fails while it is read, or the answer can't be written; 4 if there are files
-that weren't answered, or none at all.";
+fails while it is read, or the answer can't be written; 4 if some files, or all,
+can't be evaluated, or the listing has none.";
 
-/// `next`: a listing, and in each of its folders what somebody would create next.
+/// `next`: a listing with the file that a user would create in each folder.
 #[derive(Clone, Copy)]
 pub struct Next;
 
-/// What stands in the line, in the order of help.
+/// The words of the line, in the order of help.
 const WORDS: [Word<'static>; 8] = [
     Word {
         given: Given::RequiredOption,
         name: "user",
         value: "NAME",
-        help: "Who creates it, by name or uid",
+        help: "The user who creates the files, by name or uid",
     },
     Word {
         given: Given::Option,
         name: "mode",
         value: "OOO",
-        help: "The mode that the program asks for; else 666, or 777 for a folder",
+        help: "The mode that the program requests; the default is 666, or 777 with --dir",
     },
     Word {
         given: Given::Option,
         name: "umask",
         value: "OOO",
-        help: "What isn't set of it if nothing is inherited; else 022",
+        help: "The umask, which counts if nothing is inherited; the default is 022",
     },
     Word {
         given: Given::Flag,
         name: "dir",
         value: "",
-        help: "Creates folders, and not files",
+        help: "Creates folders instead of files",
     },
     Word {
         given: Given::Flag,
         name: "dirs-only",
         value: "",
-        help: "Takes each block for a folder's, as find -type d lists them",
+        help: "Every block is a folder's, as in a listing of what find -type d prints",
     },
     ACCOUNTS,
     DOMAIN,
@@ -88,7 +89,7 @@ impl CommandLine for Next {
     fn line() -> Line<'static> {
         Line {
             name: "next",
-            about: "Tells what somebody's next file in each folder of a listing would be.",
+            about: "Prints a listing with the file that a user would create in each folder.",
             after_help: ANSWERS,
             words: &WORDS,
         }
@@ -119,7 +120,7 @@ impl CliCommand for Next {
         let modes = modes_field(alloc, matches)?;
         let host = read_host(alloc, files, matches)?;
         let maker = maker_field(alloc, &host, matches)?;
-        let teller = NextTeller {
+        let reporter = NextReporter {
             host: &host,
             creation: Creation {
                 owner: maker.owner,
@@ -131,12 +132,12 @@ impl CliCommand for Next {
             folders_alone: flag_field(matches, "dirs-only"),
             pending: None,
         };
-        tell_named(
+        report_named(
             alloc,
             files,
             listing_field(matches),
             &host,
-            teller,
+            reporter,
             input,
             out,
             err,

@@ -1,4 +1,4 @@
-//! What is created in a folder, as a block.
+//! The block of what is created in a folder.
 ghost use Rattle.std.specs.Prelude.{◌≡◌, ◌++◌, IfErr, IfOk, Ok, OnOk};
 ghost use Rattle.acl_listings.specs.Faults.{IsFaultOf};
 ghost use Rattle.acl_listings.specs.Numbered.{lists_text};
@@ -23,7 +23,7 @@ fn ends_with_slash(path: &[u8]) -> bool
     path.ends_with(b"/")
 }
 
-/// The path of what is created in the folder of this path.
+/// The path of what is created in the folder with this path.
 fn next_in(alloc: Global, path: &[u8]) -> Result<Vec<u8>, AllocError>
     ensures { IfOk result (λ next. next.items ≡ next_in path.now) }
 {
@@ -100,8 +100,8 @@ fn if_short(text: Vec<u8>) -> Result<Vec<u8>, FileFault>
     Ok(text)
 }
 
-/// The block of what is created in the folder, and an empty line. It is refused if it would have
-/// more than 128 NFSv4 entries, or be longer than a block may be.
+/// The block of what is created in the folder, and an empty line. Fails if it would have more than
+/// 128 NFSv4 entries, or be longer than a block may be; and if memory runs out.
 pub(crate) fn next_block(
     alloc: Global,
     creation: &Creation,

@@ -1,4 +1,4 @@
-//! What is created, and by whom.
+//! What a user creates.
 ghost use Rattle.std.specs.Prelude.{◌≡◌};
 ghost use Rattle.acl_listing_creation.specs.Created.{beyond_umask, mode_on};
 
@@ -6,22 +6,22 @@ use acl_names::{Gid, Uid};
 use acl_nfs4::{Ace, Kind};
 use acl_posix::{Mode, without};
 
-/// Who creates what in a folder.
+/// What a user creates in a folder.
 #[derive(Drop)]
 pub(crate) struct Creation {
-    /// Whose it is.
+    /// The owner.
     pub owner: Uid,
-    /// Its group, unless the folder hands on its own.
+    /// The group, unless the folder passes on its own.
     pub group: Gid,
     /// Whether it is a file or a folder.
     pub kind: Kind,
-    /// The mode that the program asks for.
+    /// The mode that the program requests.
     pub mode: Mode,
-    /// What isn't set of it if nothing is inherited.
+    /// The bits that are removed from the mode if nothing is inherited.
     pub umask: Mode,
 }
 
-/// The mode without what the umask has.
+/// The mode without the umask's bits.
 fn beyond_umask(mode: Mode, umask: Mode) -> Mode
     ensures { result ≡ beyond_umask mode umask }
 {
@@ -33,14 +33,14 @@ fn beyond_umask(mode: Mode, umask: Mode) -> Mode
 }
 
 impl Creation {
-    /// The mode if nothing is inherited: without what the umask has.
+    /// The mode if nothing is inherited: without the umask's bits.
     pub(crate) fn mode_alone(&self) -> Mode
         ensures { result ≡ beyond_umask self.now.mode self.now.umask }
     {
         beyond_umask(self.mode, self.umask)
     }
 
-    /// The mode that is set on inherited entries; if there are none, the umask counts.
+    /// The mode that is set on inherited entries; without any, the umask counts.
     pub(crate) fn mode_on(&self, inherited: &[Ace]) -> Mode
         ensures { result ≡ mode_on self.now inherited.now }
     {

@@ -1,15 +1,14 @@
-//! `next`: what somebody's next file in each folder of a listing of real files would be.
+//! `next`: the file that a user would create in each folder of a listing.
 #![tactic(auto)]
 
 mod command;
 mod created;
 mod creation;
-mod folders;
 mod laws;
 mod lists;
 mod maker;
 mod modes;
-mod teller;
+mod reporter;
 
 pub use command::Next;
-pub use laws::{each_folder_is_told, trees_create_alike, what_is_told_is_read_again};
+pub use laws::{each_folder_is_reported, trees_create_alike, what_is_reported_is_read_again};

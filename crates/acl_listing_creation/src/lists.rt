@@ -10,8 +10,7 @@ use acl_nfs4::{Acl4, Fault4, Kind};
 use acl_posix::{Acl, AclFault};
 use std::alloc::{AllocError, Global};
 
-/// The default list of what is created below one with this list: a folder takes it over, a file has
-/// none.
+/// The default list of what is created under a default list: a folder inherits it, a file has none.
 fn default_below(alloc: Global, kind: Kind, default: &Acl) -> Result<Option<Acl>, AllocError>
     ensures { IfOk result (λ below. below ≡ default_below kind default.now) }
 {
@@ -34,9 +33,9 @@ fn nfs4_in(alloc: Global, creation: &Creation, acl: &Acl4) -> Result<Lists, File
     }
 }
 
-/// The lists of what is created in a folder with these: by its default list or by what is
-/// inherited, and else by the mode beyond the umask. It is refused if it would have more than 128
-/// NFSv4 entries.
+/// The lists of what is created in a folder with these lists: by its default list or by what is
+/// inherited, and else by the mode without the umask's bits. Fails if there would be more than 128
+/// NFSv4 entries, and if memory runs out.
 pub(crate) fn lists_in(
     alloc: Global,
     creation: &Creation,

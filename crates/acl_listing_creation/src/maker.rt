@@ -1,4 +1,4 @@
-//! Who creates something.
+//! The user who creates something.
 ghost use Rattle.std.specs.Prelude.{◌≡◌, IfErr, IfOk, Ok};
 ghost use Rattle.clap.specs.Words.{found_of, rows_of};
 ghost use Rattle.acl_cli.specs.Failures.{Explains};
@@ -11,15 +11,14 @@ use acl_people::Host;
 use clap::ArgMatches;
 use std::alloc::Global;
 
-/// Whose a file is, and in whose first group.
+/// The owner of a created file, and the owner's first group.
 #[derive(Drop)]
 pub(crate) struct Maker {
     pub owner: Uid,
     pub group: Gid,
 }
 
-/// One who asks as one who creates, in the first group. Somebody of whom no group is known is
-/// refused.
+/// The requester as a maker, in the first group. Fails for a requester in no group.
 fn maker_by(requester: &Requester) -> Result<Maker, FieldFault>
     ensures { result ≡ maker_by requester.now.uid requester.now.gids }
 {
@@ -32,7 +31,8 @@ fn maker_by(requester: &Requester) -> Result<Maker, FieldFault>
     }
 }
 
-/// The user of the host whom `--user` names, who creates.
+/// The user of the host whom `--user` names, as a maker. Fails as `read_person` does, and for a
+/// user in no group.
 pub(crate) fn maker_field<'a>(
     alloc: Global,
     host: &Host,

@@ -30,7 +30,7 @@ pub(crate) fn kind_field(matches: &ArgMatches<'_>) -> Kind
     }
 }
 
-/// The same permissions for all.
+/// The mode with these permissions for all three classes.
 fn for_all(bits: u8) -> Mode
     requires { bits ≤ 7 }
     ensures { result ≡ record { user = bits; group = bits; other = bits } }
@@ -43,7 +43,7 @@ fn for_all(bits: u8) -> Mode
     }
 }
 
-/// The mode that a program asks for unless it says otherwise.
+/// The mode that programs usually request.
 fn usual_mode(kind: Kind) -> Mode
     ensures { result ≡ usual_mode kind }
 {
@@ -53,7 +53,7 @@ fn usual_mode(kind: Kind) -> Mode
     }
 }
 
-/// The umask that a program has unless it is told otherwise.
+/// The umask that programs usually have.
 fn usual_umask() -> Mode
     ensures { result ≡ usual_umask }
 {
@@ -64,7 +64,7 @@ fn usual_umask() -> Mode
     }
 }
 
-/// The mode that a word gives, or what is meant without one.
+/// The mode that a word gives, or `usual` without one.
 fn mode_given<'a>(
     alloc: Global,
     place: &'a str,
@@ -88,7 +88,7 @@ fn mode_given<'a>(
     }
 }
 
-/// The modes that the words give, and else the usual ones.
+/// The mode and the umask that the words give, or the usual ones.
 pub(crate) fn modes_field<'a>(alloc: Global, matches: &ArgMatches<'a>) -> Result<Modes, Failure<'a>>
     ensures read { IfOk result (λ modes. modes_in (rows_of (found_of matches.now)) ≡ Ok modes) }
     ensures refused { IfErr result

@@ -1,5 +1,5 @@
 -- What is kept of a file is answered of each file whose block has the same lines behind its first.
-use Rattle.std.proofs.Common.{◌≡◌, ◌∙◌, ◌<◌, ◌≤◌, ℕ, zero, suc, true, false, List, [], ◌∷◌, Option, Some, None, Ok, IfSome, arith, bytes_eq, length, option_map, refl, set, subst, sym}
+use Rattle.std.proofs.Common.{◌≡◌, ◌∙◌, ◌<◌, ◌≤◌, ℕ, zero, suc, true, false, List, [], ◌∷◌, Option, Some, None, Ok, IfSome, ap, arith, bytes_eq, length, option_map, refl, set, subst, sym}
 use Rattle.std.specs.Prelude.{is_some}
 use Rattle.std.specs.Option.{option_map_or}
 use Rattle.std.proofs.lemmas.List.{get_or-set_same}
@@ -8,7 +8,9 @@ use Rattle.acl_listings.specs.Block.{FileValue, file_by, path_of}
 use Rattle.acl_listings.specs.Lines.{after_line}
 use Rattle.acl_listings.specs.declared.limits.TheConstants.{MAX_BLOCK}
 use Rattle.acl_listings.proofs.AlikeLemmas.{file_at, file_of-alike}
-use Rattle.acl_listing_queries.specs.WhoSteps.{AreRight, IsAnsweredAt, IsKept, kept_at, names_by}
+use Rattle.acl_people.specs.Host.{Host, names_of_host}
+use Rattle.acl_reports.specs.Strangers.{file_stranger, if_read, stranger_in}
+use Rattle.acl_listing_queries.specs.WhoSteps.{AreRight, IsAnsweredAt, IsKept, kept_at, names_by, stranger_kept}
 use Rattle.acl_listing_queries.specs.declared.who.answers.Answers.{Answers}
 use Rattle.acl_listing_queries.specs.declared.who.answers.Kept.{Kept}
 use Rattle.acl_listing_queries.specs.declared.who.answers.Users.{Users}
@@ -54,3 +56,19 @@ same_lines answers place text lines path right lines_are short path_is holds =
       file_of-alike (names_by answers.users) is.text text is.file path alike short path_is is.reads,
       record { kept = kept; there = there; are = record { granted = own.granted; search = own.search } },
     )
+
+-- ---- the first id without an account that a block names
+
+pub read_stranger : (host : Host) (text : List ℕ) (file : FileValue) → file_by (names_of_host host) text ≡ Ok file → stranger_in host text ≡ file_stranger host file (after_line text)
+read_stranger host text file reads = ap (if_read (λ file. file_stranger host file (after_line text))) reads
+
+pub same_stranger : (answers : Answers) (place : ℕ) (text lines path : List ℕ) → AreRight answers → lines ≡ after_line text → length text ≤ MAX_BLOCK → path_of text ≡ Some path
+    → option_map_or (λ kept. bytes_eq kept.lines.items lines) (kept_at answers.kept.items place) false ≡ true
+    → stranger_kept (kept_at answers.kept.items place) ≡ stranger_in answers.users.host.now text
+unfolding same_lines
+same_stranger answers place text lines path right lines_are short path_is holds =
+    let (kept, there, same) = with_lines lines (kept_at answers.kept.items place) holds in
+    let is : IsKept answers.users kept = subst (λ found. IfSome found (IsKept answers.users)) there (right.each place) in
+    let host = answers.users.host.now in
+    let (file, reads, at) = same_lines answers place text lines path right lines_are short path_is holds in
+    ap stranger_kept there ∙ is.stranger ∙ ap (file_stranger host is.file) (same ∙ lines_are) ∙ sym (read_stranger host text file reads)

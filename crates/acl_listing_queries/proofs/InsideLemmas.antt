@@ -10,7 +10,7 @@ use Rattle.acl_bridge.specs.Files.{File}
 use Rattle.acl_reports.specs.Files.{file_of}
 use Rattle.acl_listing_queries.specs.Readings.{Reading}
 use Rattle.acl_listing_queries.specs.Ways.{folder_of, holds, is_sticky, chain_to, with_folder}
-use Rattle.acl_listing_queries.specs.WhoPart.{Deletion, Question, What}
+use Rattle.acl_listing_queries.specs.WhoPart.{Deletion, Question, Via, What}
 use Rattle.acl_listing_queries.specs.WhoSteps.{AreFolders, IsFolder, IsInside, marks_of, question_by, standings_for, whos_of}
 use Rattle.acl_listing_queries.specs.declared.who.answers.Users.{Users}
 use Rattle.acl_listing_queries.specs.declared.who.way.Folder.{Folder}
@@ -53,6 +53,7 @@ module _ (users : Users) (folders : List Folder) (here : Reading) (way : List Re
   lies_in : (question : Question) → question_by users ≡ question → (above : List File) → chain_to way here ≡ Some above → (found : Option Folder) → slice_get folders (length folders - 1) ≡ found
       → IsFolder question (whos_of users) (is_sticky way) above (option_map (λ (folder : Folder). folder.standings.items) found)
   lies_in (What asked) asks above known found last = tt
+  lies_in (Via asked) asks above known found last = tt
   lies_in Deletion asks above known None last =
       let empty : way ≡ [] = no_folders users way (subst (λ folders. AreFolders users folders way) (no_last folders last) are) in
       subst (λ above. IsFolder Deletion (whos_of users) (is_sticky way) above None) (by (sym (ap (λ way. chain_to way here) empty) ∙ known)) refl
@@ -90,4 +91,5 @@ no_way users way here none = by (chain_to way here) none
 -- where nothing is known of a folder
 pub no_folder : (question : Question) (who : List Identity) (sticky : Bool) → IsFolder question who sticky [] None
 no_folder (What asked) who sticky = tt
+no_folder (Via asked) who sticky = tt
 no_folder Deletion who sticky = refl

@@ -3,7 +3,10 @@ pub mod RootLemmas
 pub mod BeginningLemmas
 pub mod WaysLemmas
 pub mod AnswersLemmas
+pub mod ViaLemmas
+pub mod ViaLawLemmas
 pub mod LinesLemmas
+pub mod NumbersLemmas
 pub mod ReachSteps
 pub mod InsideLemmas
 pub mod PartLemmas
@@ -12,3 +15,5 @@ pub mod AllAboveLemmas
 pub mod WhyWayLemmas
 pub mod WhySeekLemmas
 pub mod WhyPartLemmas
+pub mod DeletionTextLemmas
+pub mod DeletionLawLemmas

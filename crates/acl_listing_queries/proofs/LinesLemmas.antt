@@ -1,9 +1,9 @@
--- What is kept of a file tells of it.
-use Rattle.std.proofs.Common.{◌≡◌, ◌∙◌, ◌+◌, ◌++◌, ◌&&◌, ◌<◌, ◌≤◌, ℕ, zero, suc, Bool, true, false, cond, List, [], ◌∷◌, Some, None, ap, append_assoc, append-nil, arith, get_or, length, length-append, map, refl, sym}
+-- What is kept of a file reports for it.
+use Rattle.std.proofs.Common.{◌≡◌, ◌==◌, ◌∙◌, ◌+◌, ◌++◌, ◌&&◌, ◌<◌, ◌≤◌, ℕ, zero, suc, Bool, true, false, cond, List, [], ◌∷◌, Option, Some, None, ap, append_assoc, append-nil, arith, codes, get_or, length, length-append, map, option_map, refl, sym}
 use Rattle.std.specs.Prelude.{Vec, slice_get}
 use Rattle.std.specs.List.{enumerate_from, flat_map}
 use Rattle.std.specs.declared.alloc.Global.{Global}
-use Rattle.std.proofs.lemmas.Bool.{le-ltb, lt-ltb}
+use Rattle.std.proofs.lemmas.Bool.{false≢true, le-ltb, lt-ltb}
 use Rattle.std.proofs.lemmas.List.{length-map}
 use Rattle.acl_names.specs.Requester.{Identity}
 use Rattle.acl_access.specs.Deletes.{deletes}
@@ -22,8 +22,9 @@ use Rattle.acl_access.proofs.ReachLemmas.{at_place}
 use Rattle.acl_access.proofs.StandingLemmas.{places_of_pairs}
 use Rattle.acl_people.specs.Asked.{persons_of}
 use Rattle.acl_people.specs.Person.{Person}
-use Rattle.acl_listing_queries.specs.WhoSteps.{IsGranted, letters_lines, may_line_at, may_line_of, may_lines, number_there, numbers_of_each, told_at, told_of_each}
-use Rattle.acl_listing_queries.specs.WhoText.{AllLetters, Asked, Numbers, Request, ThreeLetters, deletion_text, letters_line_if, number_told, person_told, who_text}
+use Rattle.acl_listing_queries.specs.WhoSteps.{IsGranted, letters_lines, may_line_at, may_line_of, may_lines, number_there, numbers_of_each, reported_of_each}
+use Rattle.acl_listing_queries.specs.ViaSteps.{decided_line_if, decided_lines, decided_of, is_in_words, letters_shown}
+use Rattle.acl_listing_queries.specs.WhoText.{AllLetters, Asked, Numbers, Request, ThreeLetters, deletion_text, letters_line_if, number_reported, person_reported, person_via, via_text, who_text, who_via_text}
 use Rattle.acl_listing_queries.specs.declared.who.answers.Granted.TheVariants.{Letters, Masks, Numbered, Those}
 
 -- what stands behind some items
@@ -41,42 +42,48 @@ module _ (way : List File) (path : List ℕ) (file : File) where
   abbrev reach : List Identity → List Bool
   reach whos = map (reaches way) whos
 
-  -- letters that are told and granted so
+  -- what is reported and granted so, of whatever kind
 
-  module _ (tell : List ℕ → ℕ → List ℕ) (granted : File → Identity → ℕ) (none : (name : List ℕ) → tell name 0 ≡ []) where
-    abbrev letters : List Identity → List ℕ
-    letters whos = map (granted file) whos
+  module _ {X : Type 0} (absent : X) (report : List ℕ → X → List ℕ) (granted : File → Identity → X) (none : (name : List ℕ) → report name absent ≡ []) where
+    abbrev values : List Identity → List X
+    values whos = map (granted file) whos
 
-    -- what is told of somebody at a place
+    abbrev here_reported : List Identity → ℕ × List ℕ → List ℕ
+    here_reported whos here = report here.1 (cond (is_set (reach whos) here.0) (get_or (values whos) here.0 absent) absent)
+
+    abbrev one_reported : Person → List ℕ
+    one_reported person = report person.name (cond (reaches way person.who) (granted file person.who) absent)
+
+    -- what is reported for somebody at a place
     one_letters : (whos before after : List Identity) (name : List ℕ) (who : Identity) (place : ℕ) → whos ≡ before ++ who ∷ after → place ≡ length before
-        → told_at tell (letters whos) (reach whos) (place, name) ≡ person_told tell granted way file (record { name = name; who = who })
+        → here_reported whos (place, name) ≡ one_reported (record { name = name; who = who })
     one_letters whos before after name who place is there =
-        ap (λ place. told_at tell (letters whos) (reach whos) (place, name)) there
-        ∙ ap (λ whos. told_at tell (letters whos) (reach whos) (length before, name)) is
-        ∙ ap (λ b. tell name (cond b (get_or (letters (before ++ who ∷ after)) (length before) 0) 0)) (at_place (reaches way) false before after who)
-        ∙ ap (λ perms. tell name (cond (reaches way who) perms 0)) (at_place (granted file) 0 before after who)
+        ap (λ place. here_reported whos (place, name)) there
+        ∙ ap (λ whos. here_reported whos (length before, name)) is
+        ∙ ap (λ b. report name (cond b (get_or (values (before ++ who ∷ after)) (length before) absent) absent)) (at_place (reaches way) false before after who)
+        ∙ ap (λ value. report name (cond (reaches way who) value absent)) (at_place (granted file) absent before after who)
 
     -- where nobody is any more there is no line
-    no_letters : (whos : List Identity) (names : List (List ℕ)) (more : ℕ) → flat_map (told_at tell (letters whos) (reach whos)) (enumerate_from (length whos + more) names) ≡ []
+    no_letters : (whos : List Identity) (names : List (List ℕ)) (more : ℕ) → flat_map (here_reported whos) (enumerate_from (length whos + more) names) ≡ []
     no_letters whos [] more = refl
     no_letters whos (name ∷ names) more =
         let next : length whos + more + 1 ≡ length whos + (more + 1) = omega arith in
-        ap (λ b. tell name (cond b (get_or (letters whos) (length whos + more) 0) 0) ++ flat_map (told_at tell (letters whos) (reach whos)) (enumerate_from (length whos + more + 1) names))
+        ap (λ b. report name (cond b (get_or (values whos) (length whos + more) absent) absent) ++ flat_map (here_reported whos) (enumerate_from (length whos + more + 1) names))
         (none_there (reaches way) false whos more)
-        ∙ ap (λ line. line ++ flat_map (told_at tell (letters whos) (reach whos)) (enumerate_from (length whos + more + 1) names)) (none name)
-        ∙ ap (λ place. flat_map (told_at tell (letters whos) (reach whos)) (enumerate_from place names)) next ∙ no_letters whos names (more + 1)
+        ∙ ap (λ line. line ++ flat_map (here_reported whos) (enumerate_from (length whos + more + 1) names)) (none name)
+        ∙ ap (λ place. flat_map (here_reported whos) (enumerate_from place names)) next ∙ no_letters whos names (more + 1)
 
     letters_behind : (whos before after : List Identity) (names : List (List ℕ)) (place : ℕ) → whos ≡ before ++ after → place ≡ length before
-        → flat_map (told_at tell (letters whos) (reach whos)) (enumerate_from place names) ≡ flat_map (person_told tell granted way file) (persons_of names after)
+        → flat_map (here_reported whos) (enumerate_from place names) ≡ flat_map one_reported (persons_of names after)
     letters_behind whos before after [] place is there = refl
     letters_behind whos before [] (name ∷ names) place is there =
         let whole : before ≡ whos = sym (append-nil before) ∙ sym is in
         let at : place ≡ length whos + 0 = there ∙ ap length whole ∙ omega arith in
-        ap (λ place. flat_map (told_at tell (letters whos) (reach whos)) (enumerate_from place (name ∷ names))) at ∙ no_letters whos (name ∷ names) 0
+        ap (λ place. flat_map (here_reported whos) (enumerate_from place (name ∷ names))) at ∙ no_letters whos (name ∷ names) 0
     letters_behind whos before (who ∷ after) (name ∷ names) place is there =
         let next : place + 1 ≡ length (before ++ who ∷ []) = simp length-append (omega (arith, there)) in
-        ap (λ line. line ++ flat_map (told_at tell (letters whos) (reach whos)) (enumerate_from (place + 1) names)) (one_letters whos before after name who place is there)
-        ∙ ap (λ lines. person_told tell granted way file (record { name = name; who = who }) ++ lines)
+        ap (λ line. line ++ flat_map (here_reported whos) (enumerate_from (place + 1) names)) (one_letters whos before after name who place is there)
+        ∙ ap (λ lines. one_reported (record { name = name; who = who }) ++ lines)
         (letters_behind whos (before ++ who ∷ []) after names (place + 1) (is ∙ sym (append_assoc before (who ∷ []) after)) next)
 
   -- the numbers of letters
@@ -105,7 +112,7 @@ module _ (way : List File) (path : List ℕ) (file : File) where
       ∙ no_numbers whos names (place + 1) (omega (arith, past))
 
   numbers_behind : (whos before after : List Identity) (names : List (List ℕ)) (place : ℕ) → whos ≡ before ++ after → place ≡ length before
-      → flat_map (number_at whos) (enumerate_from place names) ≡ flat_map (person_told number_told effective way file) (persons_of names after)
+      → flat_map (number_at whos) (enumerate_from place names) ≡ flat_map (person_reported number_reported effective way file) (persons_of names after)
   numbers_behind whos before after [] place is there = refl
   numbers_behind whos before [] (name ∷ names) place is there =
       let whole : whos ≡ before = is ∙ append-nil before in
@@ -181,13 +188,59 @@ module _ (way : List File) (path : List ℕ) (file : File) where
           | false ↦ rest
         ]
 
+-- what stands before the path may stand with the path
+before_path : (front via path : List ℕ) → front ++ via ++ codes " " ++ path ≡ front ++ (via ++ codes " " ++ path)
+before_path front via path = ap (λ text. text ++ path) (append_assoc front via (codes " ")) ∙ append_assoc front (via ++ codes " ") path
+
+module _ (path name via : List ℕ) where
+  abbrev line_of : Option (List ℕ) → List ℕ
+  line_of shown = decided_line_if path name (option_map (λ letters. (letters, via)) shown)
+
+  abbrev path_via : List ℕ
+  path_via = via ++ codes " " ++ path
+
+  -- the line of letters, and that of somebody who may
+  decided_letters : (text : ℕ → List ℕ) (letters : ℕ) → line_of (letters_shown text letters) ≡ letters_line_if text path_via name letters ++ []
+  decided_letters text letters = by (letters == 0)
+    where
+      by : (b : Bool) → line_of (cond b None (Some (text letters ++ codes " "))) ≡ cond b [] (text letters ++ codes " " ++ name ++ codes " " ++ path_via ++ codes "\n") ++ []
+      by true = refl
+      by false = ap (λ text. text ++ codes "\n") (before_path (text letters ++ codes " " ++ name ++ codes " ") via path) ∙ sym (append-nil (text letters ++ codes " " ++ name ++ codes " " ++ path_via ++ codes "\n"))
+
+  decided_letters_if : (text : ℕ → List ℕ) (b : Bool) (letters : ℕ) → decided_line_if path name (cond b (option_map (λ letters. (letters, via)) (letters_shown text letters)) None)
+      ≡ letters_line_if text path_via name (cond b letters 0) ++ []
+  decided_letters_if text true letters = decided_letters text letters
+  decided_letters_if text false letters = refl
+
+  decided_may_if : (b m : Bool) → decided_line_if path name (cond b (option_map (λ letters. (letters, via)) (cond m (Some []) None)) None) ≡ cond (m && b) (may_line path_via name) [] ++ []
+  decided_may_if true true = ap (λ text. text ++ codes "\n") (before_path (name ++ codes " ") via path) ∙ sym (append-nil (name ++ codes " " ++ path_via ++ codes "\n"))
+  decided_may_if true false = refl
+  decided_may_if false true = refl
+  decided_may_if false false = refl
+
+module _ (way : List File) (path : List ℕ) (file : File) where
+  abbrev decided_of_one : Asked → Person → List ℕ
+  decided_of_one asked person = decided_line_if path person.name (cond (reaches way person.who) (decided_of asked file person.who) None)
+
+  one_decided : (asked : Asked) → is_in_words asked ≡ true → (person : Person) → decided_of_one asked person ≡ person_via asked way path file person
+  one_decided ThreeLetters words person = decided_letters_if path person.name (via_text ThreeLetters file person.who) perms_text (reaches way person.who) (effective file person.who)
+  one_decided Numbers words person = absurd (false≢true words)
+  one_decided AllLetters words person = decided_letters_if path person.name (via_text AllLetters file person.who) mask_text (reaches way person.who) (granted_mask file person.who)
+  one_decided (Request perms) words person = decided_may_if path person.name (via_text (Request perms) file person.who) (reaches way person.who) (may file person.who perms)
+
+  each_decided : (asked : Asked) → is_in_words asked ≡ true → (persons : List Person) → flat_map (decided_of_one asked) persons ≡ who_via_text persons asked way path file
+  each_decided asked words [] = refl
+  each_decided asked words (person ∷ persons) =
+      ap (λ line. line ++ flat_map (decided_of_one asked) persons) (one_decided asked words person)
+      ∙ ap (λ lines. person_via asked way path file person ++ lines) (each_decided asked words persons)
+
 module _ (names : List (List ℕ)) (whos : List Identity) (way : List File) (path : List ℕ) (file : File) (marks : List Bool) (marks_are : marks ≡ map (reaches way) whos) where
-  lettered : (tell : List ℕ → ℕ → List ℕ) (granted : File → Identity → ℕ) → ((name : List ℕ) → tell name 0 ≡ []) → (letters : List ℕ) → letters ≡ map (granted file) whos
-      → told_of_each tell names letters marks ≡ flat_map (person_told tell granted way file) (persons_of names whos)
-  lettered tell granted none letters is =
-      ap (λ marks. told_of_each tell names letters marks) marks_are
-      ∙ ap (λ letters. told_of_each tell names letters (map (reaches way) whos)) is
-      ∙ letters_behind way path file tell granted none whos [] whos names 0 refl refl
+  lettered : (report : List ℕ → ℕ → List ℕ) (granted : File → Identity → ℕ) → ((name : List ℕ) → report name 0 ≡ []) → (letters : List ℕ) → letters ≡ map (granted file) whos
+      → reported_of_each report names letters marks ≡ flat_map (person_reported report granted way file) (persons_of names whos)
+  lettered report granted none letters is =
+      ap (λ marks. reported_of_each report names letters marks) marks_are
+      ∙ ap (λ letters. reported_of_each report names letters (map (reaches way) whos)) is
+      ∙ letters_behind way path file 0 report granted none whos [] whos names 0 refl refl
 
   pub letters_text : (asked : Asked) (letters : Vec Perms Global) → IsGranted whos asked file (Letters letters)
       → letters_lines perms_text path names (map bits_of letters.items) marks ≡ who_text (persons_of names whos) asked way path file
@@ -222,6 +275,14 @@ module _ (names : List (List ℕ)) (whos : List Identity) (way : List File) (pat
       ap (λ marks. may_lines path names places.items marks) marks_are
       ∙ ap (λ places. may_lines path names places (map (reaches way) whos)) is
       ∙ lines_behind way path file (λ who. may file who perms) names [] names whos [] whos 0 refl refl refl refl
+
+  pub decided_text : (asked : Asked) → is_in_words asked ≡ true → (decided : List (Option (List ℕ × List ℕ))) → decided ≡ map (decided_of asked file) whos
+      → decided_lines path names decided marks ≡ who_via_text (persons_of names whos) asked way path file
+  decided_text asked words decided is =
+      ap (λ marks. decided_lines path names decided marks) marks_are
+      ∙ ap (λ decided. decided_lines path names decided (map (reaches way) whos)) is
+      ∙ letters_behind way path file None (decided_line_if path) (decided_of asked) (λ name. refl) whos [] whos names 0 refl refl
+      ∙ each_decided way path file asked words (persons_of names whos)
 
 -- of those who may delete it, by how they stand to it and its folder
 pub takers_text : (names : List (List ℕ)) (whos : List Identity) (sticky own : Bool) (folder : File) (above : List File) (path : List ℕ) (file : File) (marks : List Bool) → marks ≡ map (reaches (folder ∷ above)) whos

@@ -20,19 +20,19 @@ use Rattle.acl_bridge.specs.Files.{File, may}
 use Rattle.acl_listings.specs.declared.fault.FileFault.{FileFault}
 use Rattle.acl_listings.specs.declared.fault.FileFault.TheVariants as file
 use Rattle.acl_reports.specs.Files.{file_of}
-use Rattle.acl_reports.specs.Telling.{IsPart, UnlessMemory}
+use Rattle.acl_reports.specs.Reporting.{IsPart, UnlessMemory}
 use Rattle.acl_listing_queries.specs.Readings.{Reading, reading_of}
 use Rattle.acl_listing_queries.specs.RootSteps.{IsBegun}
 use Rattle.acl_listing_queries.specs.Ways.{begins_apart, chain_to, folder_of, holds, is_sticky, known_way, may_be_above, those_above, way_of, way_on, with_folder}
-use Rattle.acl_listing_queries.specs.WhoPart.{Asking, Deletion, Question, What, part_by, part_on, way_for, who_part}
+use Rattle.acl_listing_queries.specs.WhoPart.{Asking, Deletion, Question, Via, What, part_by, part_on, way_for, who_part}
 use Rattle.acl_listing_queries.specs.WhoText.{AllLetters, Numbers, Request, ThreeLetters}
-use Rattle.acl_listing_queries.specs.declared.who.reach.ReachTeller.{ReachTeller}
+use Rattle.acl_listing_queries.specs.declared.who.reach.ReachReporter.{ReachReporter}
 use Rattle.std.specs.declared.alloc.Global.{Global}
 use Rattle.std.proofs.lemmas.Option.{none-some}
 use Rattle.acl_listing_queries.specs.WhoSteps.{AreAnswersOf, AreFolders, AreRight, IsAnswered, IsBehind, IsChain, IsCome, IsEveryone, IsOnWay, IsPlacedAt, IsSearch, asking_of, folders_to, kept_at, lacks_path, marks_of, names_by, question_by, readings_of, standings_for, standings_kept, whos_of}
 use Rattle.acl_listing_queries.specs.declared.who.answers.Answers.{Answers}
 use Rattle.acl_listing_queries.specs.declared.who.answers.Granted.{Granted}
-use Rattle.acl_listing_queries.specs.declared.who.answers.Granted.TheVariants.{Letters, Masks, Numbered, Standings, Those}
+use Rattle.acl_listing_queries.specs.declared.who.answers.Granted.TheVariants.{Entries, Letters, Masks, Numbered, Standings, Those}
 use Rattle.acl_listing_queries.specs.declared.who.answers.Kept.{Kept}
 use Rattle.acl_listing_queries.specs.declared.who.answers.Users.{Users}
 use Rattle.acl_listing_queries.specs.declared.who.reach.Before.{Before}
@@ -170,7 +170,7 @@ stands answers before folders found stack is behind = by stack (subst (λ found.
     by [] behind = absurd behind
     by (block ∷ way) (path, placed, are) = record { block = block; way = way; stack_is = refl; path = path; placed = placed; are = are }
 
--- ---- what is told
+-- ---- what is reported
 
 -- a block without a path doesn't read
 pub pathless : (names : Names) (text : List ℕ) (file : FileValue) → path_of text ≡ None → file_by names text ≡ Ok file → ⊥
@@ -185,19 +185,19 @@ faulty_part A asking earlier text (file.Block fault) old is =
     (ap (λ said. part_by asking (is_sticky (way_of before here)) said (way_for asking.reach before here)) is, refl)
 faulty_part A asking earlier text file.Memory old is = tt
 
--- of one that reads what its way tells
+-- of one that reads what its way reports
 pub known_part : {A : Type 0} (users one : Users) (earlier : List (List ℕ)) (text : List ℕ) (file : FileValue) (result : Result A FileFault) (old new : List ℕ) → one ≡ users → users.reach ≡ true
     → file_by (names_by users) text ≡ Ok file
     → IsPart (part_on (asking_of one) (is_sticky (way_of (readings_of users earlier) (reading_of (names_by users) text))) file
     (cond (begins_apart (readings_of users earlier) (reading_of (names_by users) text)) (chain_to (way_of (readings_of users earlier) (reading_of (names_by users) text)) (reading_of (names_by one) text)) None)) result old new
     → IsPart (who_part (asking_of users) earlier text) result old new
-known_part users one earlier text file result old new same reach reads told =
+known_part users one earlier text file result old new same reach reads reported =
     let asking = asking_of users in
     let before = readings_of users earlier in
     let here = reading_of (names_by users) text in
     let way = way_of before here in
     let apart = begins_apart before here in
-    let own = subst (λ (one : Users). IsPart (part_on (asking_of one) (is_sticky way) file (cond apart (chain_to way (reading_of (names_by one) text)) None)) result old new) same told in
+    let own = subst (λ (one : Users). IsPart (part_on (asking_of one) (is_sticky way) file (cond apart (chain_to way (reading_of (names_by one) text)) None)) result old new) same reported in
     subst (λ b. IsPart (part_by asking (is_sticky way) (file_by (names_by users) text) (way_for b before here)) result old new) (sym reach)
     (subst (λ said. IsPart (part_by asking (is_sticky way) said (known_way before here)) result old new) (sym reads) own)
 
@@ -228,6 +228,13 @@ standings_are whos (What asked) file (Letters letters) is = refl
 standings_are whos (What asked) file (Numbered letters) is = refl
 standings_are whos (What asked) file (Masks masks) is = refl
 standings_are whos (What asked) file (Those places) is = refl
+standings_are whos (What asked) file (Entries decided) is = refl
+standings_are whos (Via asked) file (Letters letters) is = absurd is
+standings_are whos (Via asked) file (Numbered letters) is = absurd is
+standings_are whos (Via asked) file (Masks masks) is = absurd is
+standings_are whos (Via asked) file (Those places) is = absurd is
+standings_are whos (Via asked) file (Standings standings) is = absurd is
+standings_are whos (Via asked) file (Entries decided) is = refl
 standings_are whos (What ThreeLetters) file (Standings standings) is = absurd is
 standings_are whos (What Numbers) file (Standings standings) is = absurd is
 standings_are whos (What AllLetters) file (Standings standings) is = absurd is
@@ -236,11 +243,13 @@ standings_are whos Deletion file (Letters letters) is = absurd is
 standings_are whos Deletion file (Numbered letters) is = absurd is
 standings_are whos Deletion file (Masks masks) is = absurd is
 standings_are whos Deletion file (Those places) is = absurd is
+standings_are whos Deletion file (Entries decided) is = absurd is
 standings_are whos Deletion file (Standings standings) is = is
 
 -- and if it doesn't read
 pub no_standings : (whos : List Identity) (question : Question) (said : Result FileValue BlockFault) (fault : BlockFault) → said ≡ Err fault → [] ≡ standings_for question whos said
 no_standings whos (What asked) said fault is = refl
+no_standings whos (Via asked) said fault is = refl
 no_standings whos Deletion said fault is = ap (standings_for Deletion whos) (sym is)
 
 -- ---- what is known of a folder
@@ -290,7 +299,7 @@ module _ (answers : Answers) (place : ℕ) (block : Reading) (at : IsPlacedAt an
 -- ---- the next block
 
 -- the way has come to it
-pub come_here : (was mid : ReachTeller) (earlier : List (List ℕ)) (text path : List ℕ) → mid.answers ≡ was.answers → mid.everyone ≡ was.everyone → mid.lost ≡ was.lost
+pub come_here : (was mid : ReachReporter) (earlier : List (List ℕ)) (text path : List ℕ) → mid.answers ≡ was.answers → mid.everyone ≡ was.everyone → mid.lost ≡ was.lost
     → ((seen : List Reading) (here : Reading) → was.answers.users.reach ≡ true → here.path ≡ Some path → list_any lacks_path seen ≡ false → IsEveryone (whos_of was.answers.users) was.everyone.items
     → IsBehind was.answers was.before was.folders.items (fold way_on [] seen) → AreFolders was.answers.users mid.folders.items (way_of seen here))
     → IsOnWay was earlier → path_of text ≡ Some path
@@ -309,7 +318,7 @@ come_here was mid earlier text path answers everyone lost folders on path_is =
     }
 
 -- it is read
-pub come_on : (mid : ReachTeller) (answers : Answers) (way : List Reading) → answers.users ≡ mid.answers.users → AreRight answers → IsCome mid way → IsCome (record mid { answers = answers }) way
+pub come_on : (mid : ReachReporter) (answers : Answers) (way : List Reading) → answers.users ≡ mid.answers.users → AreRight answers → IsCome mid way → IsCome (record mid { answers = answers }) way
 come_on mid answers way same right come = record {
   reach = ap (λ (users : Users). users.reach) same ∙ come.reach;
   right = right;
@@ -324,7 +333,7 @@ unless_memory (Err (file.Block fault)) P holds = holds
 unless_memory (Err file.Memory) P holds = tt
 
 -- and stands behind it
-pub on_behind : (was mid new : ReachTeller) (earlier : List (List ℕ)) (text path : List ℕ) (before : Before) → IsOnWay was earlier → mid.lost ≡ was.lost → mid.answers.users ≡ was.answers.users
+pub on_behind : (was mid new : ReachReporter) (earlier : List (List ℕ)) (text path : List ℕ) (before : Before) → IsOnWay was earlier → mid.lost ≡ was.lost → mid.answers.users ≡ was.answers.users
     → IsCome mid (way_of (readings_of was.answers.users earlier) (reading_of (names_by was.answers.users) text)) → path_of text ≡ Some path → before.path.items ≡ path
     → IsPlacedAt mid.answers before.place (reading_of (names_by mid.answers.users) text) → new ≡ record mid { before = Some before }
     → (mid.lost ≡ false → IsBegun mid.beginning (readings_of was.answers.users earlier ++ reading_of (names_by was.answers.users) text ∷ []))
@@ -350,4 +359,4 @@ on_behind was mid new earlier text path before on lost same come path_is there p
       behind = λ found. subst (λ readings. IsBehind mid.answers (Some before) mid.folders.items (fold way_on [] readings)) (sym more)
           (subst (IsBehind mid.answers (Some before) mid.folders.items) (sym stack) (behind found));
     } in
-    subst (λ (state : ReachTeller). IsOnWay state (earlier ++ text ∷ [])) (sym is) stands
+    subst (λ (state : ReachReporter). IsOnWay state (earlier ++ text ∷ [])) (sym is) stands

@@ -1,5 +1,8 @@
--- What `why` tells of a block, by what it says and by the folders on the way to it.
-use Rattle.std.proofs.Common.{◌≡◌, ◌∙◌, true, cond, List, None, Some, Ok, Err, Option, ap, subst, sym, ℕ}
+-- What `why` reports for a block, by what it says and by the folders on the way to it.
+use Rattle.std.proofs.Common.{◌≡◌, ◌∙◌, Bool, true, cond, List, None, Some, Ok, Err, Option, ap, reverse, subst, sym, ℕ}
+use Rattle.std.specs.List.{flat_map}
+use Rattle.acl_access.specs.Reach.{reaches}
+use Rattle.acl_reports.specs.Files.{file_of}
 use Rattle.acl_listings.specs.Block.{FileValue, file_by, path_of}
 use Rattle.acl_listings.specs.Faults.{IsFaultOf}
 use Rattle.acl_listings.specs.declared.fault.FileFault.{FileFault}
@@ -9,7 +12,7 @@ use Rattle.acl_bridge.specs.Files.{File}
 use Rattle.acl_listing_queries.specs.Readings.{Reading, reading_of}
 use Rattle.acl_listing_queries.specs.Ways.{begins_apart, chain_to, known_way, way_of}
 use Rattle.acl_listing_queries.specs.WhySteps.{IsUnknown, IsWayTo}
-use Rattle.acl_listing_queries.specs.WhyText.{WhyAsking, why_by, why_part, why_text}
+use Rattle.acl_listing_queries.specs.WhyText.{WhyAsking, folder_text, nearest, sought_part, why_by, why_on, why_part}
 use Rattle.acl_listing_queries.specs.declared.why.way.Way.{Way}
 
 module _ (asking : WhyAsking) (earlier : List Reading) (text : List ℕ) where
@@ -29,8 +32,16 @@ module _ (asking : WhyAsking) (earlier : List Reading) (text : List ℕ) where
     part_unknown file.Memory unknown = tt
 
     -- and any other
-    pub part_known : (files : List File) → begins_apart earlier here ≡ true → chain_to way_here here ≡ Some files → why_part asking earlier text ≡ Ok (why_text asking files way_here said)
+    pub part_known : (files : List File) → begins_apart earlier here ≡ true → chain_to way_here here ≡ Some files → why_part asking earlier text ≡ why_on asking way_here said (Some files)
     part_known files apart known = by_nodes (Some files) (ap (λ b. cond b (chain_to way_here here) None) apart ∙ known)
+
+    -- by what is reported of the folders, and by what decides about the file
+    pub part_sought : (files : List File) (reach : Bool) (folders : List ℕ) (acl : File) → begins_apart earlier here ≡ true → chain_to way_here here ≡ Some files → reach ≡ reaches files asking.who
+        → folders ≡ flat_map (folder_text asking.who) (reverse way_here) → acl ≡ file_of said
+        → why_part asking earlier text ≡ sought_part asking.sought asking.who reach folders (nearest way_here) (record { path = said.path; file = acl })
+    part_sought files reach folders acl apart known reach_is folders_is acl_is =
+        part_known files apart known
+        ∙ sym (λ i. sought_part asking.sought asking.who (reach_is i) (folders_is i) (nearest way_here) (record { path = said.path; file = acl_is i }))
 
     -- the way to its path is kept
     pub way_to_it : (path : List ℕ) (way : Way) → path_of text ≡ Some path → IsWayTo asking.names path earlier way → IsWayTo asking.names said.path earlier way

@@ -130,7 +130,7 @@ pub way_unknown : (more way : List Reading) (here : Reading) → known_folders w
 way_unknown more way here unknown =
     chain_to-held (more ++ way) here ∙ none_either (is_held (more ++ way) here.path) (known_folders (more ++ way)) (unknown_on more way unknown)
 
--- ---- folders that are told
+-- ---- folders that are reported
 
 -- one folder more
 pub folders-more : (who : Identity) (way : List Reading) (next : Reading)

@@ -11,47 +11,56 @@ use Rattle.acl_cli.specs.Faults.{Malformed as MalformedField}
 use Rattle.acl_cli.specs.declared.misuse.Misuse.TheVariants.{DeleteAndOthers, LettersAndPerms}
 use Rattle.acl_people.specs.Host.{Host, IsHost, names_of_host}
 use Rattle.acl_people.specs.HostFailures.{IsHostFailure}
-use Rattle.acl_reports.specs.Listed.{AnswersListing, BeginsListing, Part}
+use Rattle.acl_reports.specs.Listed.{AnswersNaming, BeginsNaming, Part}
 use Rattle.acl_reports.specs.ListingMeaning.{FailsForListing, bytes_named, inputs_of}
 use Rattle.acl_reports.specs.ListingMeaning.{listing_in}
+use Rattle.acl_reports.specs.Strangers.{stranger_in}
+use Rattle.acl_reports.specs.declared.stranger.Stranger.{Stranger}
 use Rattle.acl_people.specs.People.{IsAskedFailure, asked_in}
 use Rattle.acl_people.specs.Person.{Person}
-use Rattle.acl_listing_queries.specs.WhoPart.{Deletion, Question, What, who_part}
-use Rattle.acl_listing_queries.specs.WhoText.{AllLetters, asked_by}
+use Rattle.acl_listing_queries.specs.WhoPart.{Deletion, Question, Via, What, who_part}
+use Rattle.acl_listing_queries.specs.WhoText.{AllLetters, Asked, asked_by}
 
--- what is asked for by permissions, if the words tell, else by letters
-abbrev pub asked_for : Result (Option ℕ) MalformedField → Result Question Failure
-asked_for (Ok perms) = Ok (What (asked_by perms))
+-- what is asked for by permissions, if the words have them, else by letters
+abbrev pub asked_for : Result (Option ℕ) MalformedField → Result Asked Failure
+asked_for (Ok perms) = Ok (asked_by perms)
 asked_for (Err malformed) = Err (Malformed malformed)
 
 -- what users may do; all letters and permissions exclude each other
-abbrev pub what_in : List Row → Result Question Failure
+abbrev pub what_in : List Row → Result Asked Failure
 what_in rows =
     if flag_in (codes "letters") rows
     then (if is_some (first_of (codes "perms") rows) then Err (Misuse LettersAndPerms)
-    else Ok (What AllLetters))
+    else Ok AllLetters)
     else asked_for (optional_perms_in rows)
 
--- both exclude the question who may delete
+-- these exclude the question who may delete, and so does by which entries
 abbrev pub asks_what : List Row → Bool
 asks_what rows = flag_in (codes "letters") rows || is_some (first_of (codes "perms") rows)
+    || flag_in (codes "via") rows
+
+-- what users may do, or also by which entries
+abbrev pub what_or_via : Bool → Result Asked Failure → Result Question Failure
+what_or_via via (Ok asked) = Ok (if via then Via asked else What asked)
+what_or_via via (Err failure) = Err failure
 
 -- what the words ask
 abbrev pub question_in : List Row → Result Question Failure
 question_in rows =
     if flag_in (codes "delete") rows
     then (if asks_what rows then Err (Misuse DeleteAndOthers) else Ok Deletion)
-    else what_in rows
+    else what_or_via (flag_in (codes "via") rows) (what_in rows)
 
 -- whether only those count who may search each folder above a file: whoever deletes has to
 abbrev pub reach_in : List Row → Bool
 reach_in rows = flag_in (codes "reach") rows || flag_in (codes "delete") rows
 
 -- the files say who there is, the words whom and what they ask about, and the answer is what
--- follows from it
-pub record WhoAnswers (Is : Text → Names → (List (List ℕ) → List ℕ → Part) → Option (List ℕ)
-    → Answer → Type 0) (bytes_of : Text → Option (List ℕ)) (input : Option (List ℕ))
-    (rows : List Row) (answer : Answer) : Type 0 where
+-- follows from it, with which ids the listing names that no account has
+pub record WhoAnswers (Is : Text → Names → (List (List ℕ) → List ℕ → Part)
+    → (List ℕ → Option Stranger) → Option (List ℕ) → Answer → Type 0)
+    (bytes_of : Text → Option (List ℕ)) (input : Option (List ℕ)) (rows : List Row)
+    (answer : Answer) : Type 0 where
   pub host : Host
   pub host_is : IsHost bytes_of rows host
   pub persons : List Person
@@ -64,7 +73,7 @@ pub record WhoAnswers (Is : Text → Names → (List (List ℕ) → List ℕ →
         persons = persons;
         question = question;
         reach = reach_in rows;
-      })) (bytes_named bytes_of input (listing_in rows)) answer
+      })) (stranger_in host) (bytes_named bytes_of input (listing_in rows)) answer
 
 -- the files don't say who there is, nobody is asked about, or the listing fails
 abbrev pub FailsForFiles : (Text → Option (List ℕ)) → List Row → Failure → Type 0
@@ -79,8 +88,8 @@ FailsForWho bytes_of rows failure = (question_in rows ≡ Err failure)
 
 abbrev pub who_meaning : (Text → Option (List ℕ)) → Option (List ℕ) → List Row → Meaning
 who_meaning bytes_of input rows = record {
-  Answers = WhoAnswers AnswersListing bytes_of input rows;
-  Begins = WhoAnswers BeginsListing bytes_of input rows;
+  Answers = WhoAnswers AnswersNaming bytes_of input rows;
+  Begins = WhoAnswers BeginsNaming bytes_of input rows;
   Fails = FailsForWho bytes_of rows;
   inputs = inputs_of (listing_in rows);
 }

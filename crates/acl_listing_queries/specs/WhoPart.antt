@@ -1,4 +1,4 @@
--- What `who` tells of a block of a listing.
+-- What `who` reports for a block of a listing.
 use Rattle.std.specs.Prelude.{ℕ, Bool, true, false, List, [], ◌∷◌, Option, Some, None, Result, Ok}
 use Rattle.std.specs.Prelude.{Err, map}
 use Rattle.acl_names.specs.Names.{Names}
@@ -13,10 +13,13 @@ use Rattle.acl_people.specs.Person.{Person}
 use Rattle.acl_listing_queries.specs.Readings.{Reading, reading_of}
 use Rattle.acl_listing_queries.specs.Ways.{is_sticky, known_way, way_of}
 use Rattle.acl_listing_queries.specs.WhoText.{Asked, Numbers, deletion_text, who_text}
+use Rattle.acl_listing_queries.specs.WhoText.{who_via_text}
 
--- what is asked about a file: what may be done with it, or who may delete it
+-- what is asked about a file: what may be done with it, the same and by which entries, or who may
+-- delete it
 pub data Question : Type 0 where
   What : Asked → Question
+  Via : Asked → Question
   Deletion : Question
 
 -- by which names blocks are read, who is asked about, what is asked, and whether only those count
@@ -36,11 +39,12 @@ letters_asked names persons = record {
   reach = true;
 }
 
--- What is reported of a file on this way, of which the nearest folder has the sticky bit or not,
--- and whose path is printed so: who may delete it isn't known without that folder.
+-- What is reported for a file on this way, of which the nearest folder has the sticky bit or not,
+-- and whose path is printed so: who may delete it isn't asked where no folder above it is listed.
 abbrev pub part_of : List Person → Question → Bool → List File → List ℕ → File → Part
 part_of persons (What asked) sticky way path file = Ok (who_text persons asked way path file)
-part_of persons Deletion sticky [] path file = Err UnknownWay
+part_of persons (Via asked) sticky way path file = Ok (who_via_text persons asked way path file)
+part_of persons Deletion sticky [] path file = Ok []
 part_of persons Deletion sticky (folder ∷ above) path file =
     Ok (deletion_text persons sticky folder above path file)
 
@@ -60,7 +64,7 @@ abbrev pub way_for : Bool → List Reading → Reading → Option (List File)
 way_for false earlier here = Some []
 way_for true earlier here = known_way earlier here
 
--- what `who` tells of a block, by its text and those before it
+-- what `who` reports for a block, by its text and those before it
 abbrev pub who_part : Asking → List (List ℕ) → List ℕ → Part
 who_part asking earlier text =
     let here = reading_of asking.names text in

@@ -3,6 +3,7 @@ use Rattle.std.specs.Prelude.{◌≡◌, ℕ, Bool, true, false, List, [], ◌�
 use Rattle.std.specs.Prelude.{Result, Ok, Err, IfSome, get_or, is_none, length, map, option_map}
 use Rattle.std.specs.Prelude.{⊤, nat_lt, reverse, slice_get, if◌then◌else◌}
 use Rattle.std.specs.List.{enumerate_from, flat_map, fold, list_all, list_any}
+use Rattle.std.specs.Option.{option_and_then}
 use Rattle.acl_names.specs.Names.{Names}
 use Rattle.acl_names.specs.Requester.{Identity}
 use Rattle.acl_access.specs.Letters.{effective, granted_mask}
@@ -16,30 +17,34 @@ use Rattle.acl_listings.specs.Lines.{after_line}
 use Rattle.acl_listings.specs.declared.fault.BlockFault.{BlockFault}
 use Rattle.acl_nfs4.specs.Mask.{mask_bits}
 use Rattle.acl_posix.specs.Perms.{bits_of}
+use Rattle.acl_posix.specs.declared.perms.Perms.{Perms}
 use Rattle.acl_bridge.specs.Files.{File, may}
 use Rattle.acl_people.specs.Asked.{names_of_people, persons_of}
 use Rattle.acl_reports.specs.Files.{file_of}
+use Rattle.acl_reports.specs.Strangers.{file_stranger, stranger_in}
+use Rattle.acl_reports.specs.declared.stranger.Stranger.{Stranger}
 use Rattle.acl_people.specs.Host.{names_of_host}
 use Rattle.acl_listing_queries.specs.Readings.{Reading, reading_of}
 use Rattle.acl_listing_queries.specs.RootSteps.{IsBegun}
 use Rattle.acl_listing_queries.specs.Ways.{chain_to, folder_of, may_be_above, way_on}
 use Rattle.acl_listing_queries.specs.Ways.{with_folder}
-use Rattle.acl_listing_queries.specs.WhoPart.{Asking, Deletion, Question, What}
+use Rattle.acl_listing_queries.specs.ViaSteps.{asked_of, decided_of, is_in_words, shown_if}
+use Rattle.acl_listing_queries.specs.WhoPart.{Asking, Deletion, Question, Via, What}
 use Rattle.acl_listing_queries.specs.WhoText.{AllLetters, Asked, Numbers, Request, ThreeLetters}
 use Rattle.acl_listing_queries.specs.WhoText.{letters_line_if}
 use Rattle.acl_listing_queries.specs.declared.who.answers.Answers.{Answers}
 use Rattle.acl_listing_queries.specs.declared.who.answers.Granted.{Granted}
-use Rattle.acl_listing_queries.specs.declared.who.answers.Granted.TheVariants.{Letters, Masks}
-use Rattle.acl_listing_queries.specs.declared.who.answers.Granted.TheVariants.{Numbered, Standings}
-use Rattle.acl_listing_queries.specs.declared.who.answers.Granted.TheVariants.{Those}
+use Rattle.acl_listing_queries.specs.declared.who.answers.Granted.TheVariants.{Entries, Letters}
+use Rattle.acl_listing_queries.specs.declared.who.answers.Granted.TheVariants.{Masks, Numbered}
+use Rattle.acl_listing_queries.specs.declared.who.answers.Granted.TheVariants.{Standings, Those}
 use Rattle.acl_listing_queries.specs.declared.who.answers.Kept.{Kept}
-use Rattle.acl_listing_queries.specs.declared.who.answers.TheConstants.{PLACES}
+use Rattle.acl_listing_queries.specs.declared.places.TheConstants.{PLACES}
 use Rattle.acl_listing_queries.specs.declared.who.answers.Users.{Users}
 use Rattle.acl_listing_queries.specs.declared.who.asked.Asked.{Asked as AskedValue}
 use Rattle.acl_listing_queries.specs.declared.who.asked.Asked.TheVariants as asked
-use Rattle.acl_listing_queries.specs.declared.who.listed.ListedTeller.{ListedTeller}
+use Rattle.acl_listing_queries.specs.declared.who.listed.ListedReporter.{ListedReporter}
 use Rattle.acl_listing_queries.specs.declared.who.reach.Before.{Before}
-use Rattle.acl_listing_queries.specs.declared.who.reach.ReachTeller.{ReachTeller}
+use Rattle.acl_listing_queries.specs.declared.who.reach.ReachReporter.{ReachReporter}
 use Rattle.acl_listing_queries.specs.declared.who.way.Folder.{Folder}
 use Rattle.acl_listing_queries.specs.declared.who.way.Inside.{Inside}
 
@@ -52,10 +57,9 @@ abbrev pub names_by : Users → Names
 names_by users = names_of_host users.host.now
 
 abbrev pub question_of : AskedValue → Question
-question_of asked.Letters = What ThreeLetters
+question_of (asked.What what) = What (asked_of what)
+question_of (asked.Via what) = Via (asked_of what)
 question_of asked.Numbers = What Numbers
-question_of asked.AllLetters = What AllLetters
-question_of (asked.Perms perms) = What (Request (bits_of perms))
 question_of asked.Deletion = Deletion
 
 abbrev pub question_by : Users → Question
@@ -69,11 +73,15 @@ asking_of users = record {
   reach = users.reach;
 }
 
+-- which id without an account a block names first
+abbrev pub stranger_by : Users → List ℕ → Option Stranger
+stranger_by users text = stranger_in users.host.now text
+
 -- ---- the lines of a file
 
--- what is told of the name at a place and its letters
-abbrev pub told_at : (List ℕ → ℕ → List ℕ) → List ℕ → List Bool → ℕ × List ℕ → List ℕ
-told_at tell letters reach here = tell here.1 (letters_at letters reach here.0)
+-- what is reported for the name at a place and its letters
+abbrev pub reported_at : (List ℕ → ℕ → List ℕ) → List ℕ → List Bool → ℕ × List ℕ → List ℕ
+reported_at report letters reach here = report here.1 (letters_at letters reach here.0)
 
 abbrev pub may_line_of : List ℕ → Option (List ℕ) → List ℕ
 may_line_of path None = []
@@ -85,9 +93,9 @@ may_line_at path names reach place =
     if is_set reach place then may_line_of path (slice_get names place) else []
 
 -- of all names
-abbrev pub told_of_each : (List ℕ → ℕ → List ℕ) → List (List ℕ) → List ℕ → List Bool → List ℕ
-told_of_each tell names letters reach =
-    flat_map (told_at tell letters reach) (enumerate_from 0 names)
+abbrev pub reported_of_each : (List ℕ → ℕ → List ℕ) → List (List ℕ) → List ℕ → List Bool → List ℕ
+reported_of_each report names letters reach =
+    flat_map (reported_at report letters reach) (enumerate_from 0 names)
 
 -- the number of the letters at a place, if somebody is there; and of all of them who have names
 abbrev pub number_there : List ℕ → List Bool → ℕ → List ℕ
@@ -98,10 +106,15 @@ abbrev pub numbers_of_each : List (List ℕ) → List ℕ → List Bool → List
 numbers_of_each names letters reach =
     flat_map (λ here. number_there letters reach here.0) (enumerate_from 0 names)
 
+-- these are the numbers of whichever names, if there are so many
+abbrev pub AreNumbersOf : ℕ → List Perms → List Bool → List ℕ → Type 0
+AreNumbersOf count letters reach numbers = (names : List (List ℕ)) → length names ≡ count
+    → numbers ≡ numbers_of_each names (map bits_of letters) reach
+
 -- the lines of letters that are written so; and of the names at the places
 abbrev pub letters_lines : (ℕ → List ℕ) → List ℕ → List (List ℕ) → List ℕ → List Bool → List ℕ
 letters_lines text path names letters reach =
-    told_of_each (letters_line_if text path) names letters reach
+    reported_of_each (letters_line_if text path) names letters reach
 
 abbrev pub may_lines : List ℕ → List (List ℕ) → List ℕ → List Bool → List ℕ
 may_lines path names places reach = flat_map (may_line_at path names reach) places
@@ -120,9 +133,12 @@ IsGranted whos (Request perms) file (Those places) =
     places.items ≡ places_from (λ who. may file who perms) 0 whos
 IsGranted whos _ file _ = ⊥
 
--- or how each of them stands to it, with the sticky bit or not
+-- or also the entries that decide so; or how each of them stands to it, with the sticky bit or not
 abbrev pub IsAnswered : List Identity → Question → Bool → File → Granted → Type 0
 IsAnswered whos (What asked) sticky file granted = IsGranted whos asked file granted
+IsAnswered whos (Via asked) sticky file (Entries decided) = (is_in_words asked ≡ true)
+    × (map shown_if decided.items ≡ map (decided_of asked file) whos)
+IsAnswered whos (Via asked) sticky file _ = ⊥
 IsAnswered whos Deletion sticky file (Standings standings) =
     standings.items ≡ map (standing_of sticky file) whos
 IsAnswered whos Deletion sticky file _ = ⊥
@@ -144,10 +160,14 @@ pub record IsKept (users : Users) (kept : Kept) : Type 0 where
   pub file : FileValue
   pub reads : file_by (names_by users) text ≡ Ok file
   pub answers : AreAnswersOf users file kept
+  pub stranger : kept.stranger ≡ file_stranger users.host.now file kept.lines.items
 
 -- what is kept at a place, if anything is
 abbrev pub kept_at : List (Option Kept) → ℕ → Option Kept
 kept_at kept place = get_or kept place None
+
+abbrev pub stranger_kept : Option Kept → Option Stranger
+stranger_kept kept = option_and_then (λ kept. kept.stranger) kept
 
 pub record AreRight (answers : Answers) : Type 0 where
   pub places : length answers.kept.items ≡ PLACES
@@ -176,6 +196,7 @@ standings_kept granted = []
 -- if that is asked, how each of these stands to a folder of which this is said
 abbrev pub standings_for : Question → List Identity → Result FileValue BlockFault → List Standing
 standings_for (What asked) who said = []
+standings_for (Via asked) who said = []
 standings_for Deletion who (Ok file) = map (standing_of file.flags.sticky (file_of file)) who
 standings_for Deletion who (Err fault) = []
 
@@ -209,6 +230,7 @@ AreFolders users folders way = map shown_folder (reverse folders) ≡ levels use
 -- where a file lies: who reaches it, and, if it is asked, how these stand to its folder
 abbrev pub IsFolder : Question → List Identity → Bool → List File → Option (List Standing) → Type 0
 IsFolder (What asked) who sticky way found = ⊤
+IsFolder (Via asked) who sticky way found = ⊤
 IsFolder Deletion who sticky [] found = found ≡ None
 IsFolder Deletion who sticky (folder ∷ above) found =
     found ≡ Some (map (standing_of sticky folder) who)
@@ -249,7 +271,7 @@ IsBehind answers (Some before) folders (block ∷ way) =
     × AreFolders answers.users folders way
 IsBehind answers _ folders _ = ⊥
 
--- ---- where tellers stand
+-- ---- where reporters stand
 
 abbrev pub IsEveryone : List Identity → List Bool → Type 0
 IsEveryone who marks = marks ≡ map (reaches []) who
@@ -257,14 +279,14 @@ IsEveryone who marks = marks ≡ map (reaches []) who
 abbrev pub readings_of : Users → List (List ℕ) → List Reading
 readings_of users texts = map (reading_of (names_by users)) texts
 
--- it tells of each block by itself
-pub record IsListing (teller : ListedTeller) (earlier : List (List ℕ)) : Type 0 where
-  pub reach : teller.answers.users.reach ≡ false
-  pub everyone : IsEveryone (whos_of teller.answers.users) teller.everyone.items
-  pub right : AreRight teller.answers
+-- it reports for each block by itself
+pub record IsListing (reporter : ListedReporter) (earlier : List (List ℕ)) : Type 0 where
+  pub reach : reporter.answers.users.reach ≡ false
+  pub everyone : IsEveryone (whos_of reporter.answers.users) reporter.everyone.items
+  pub right : AreRight reporter.answers
 
 -- it has come so far
-pub record IsOnWay (state : ReachTeller) (earlier : List (List ℕ)) : Type 0 where
+pub record IsOnWay (state : ReachReporter) (earlier : List (List ℕ)) : Type 0 where
   pub reach : state.answers.users.reach ≡ true
   pub right : AreRight state.answers
   pub everyone : IsEveryone (whos_of state.answers.users) state.everyone.items
@@ -275,7 +297,7 @@ pub record IsOnWay (state : ReachTeller) (earlier : List (List ℕ)) : Type 0 wh
       (fold way_on [] (readings_of state.answers.users earlier))
 
 -- it has brought a block to which this is the way
-pub record IsCome (state : ReachTeller) (way : List Reading) : Type 0 where
+pub record IsCome (state : ReachReporter) (way : List Reading) : Type 0 where
   pub reach : state.answers.users.reach ≡ true
   pub right : AreRight state.answers
   pub everyone : IsEveryone (whos_of state.answers.users) state.everyone.items

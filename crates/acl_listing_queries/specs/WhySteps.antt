@@ -5,14 +5,14 @@ use Rattle.std.specs.List.{flat_map, list_any}
 use Rattle.std.specs.declared.alloc.Global.{Global}
 use Rattle.std.specs.Borrow.{Bor}
 use Rattle.acl_access.specs.Reach.{reaches}
-use Rattle.acl_listings.specs.Block.{path_of}
+use Rattle.acl_listings.specs.Block.{file_by, path_of}
 use Rattle.acl_listings.specs.Listing.{Block}
 use Rattle.acl_listings.specs.declared.fault.BlockFault.TheVariants.{UnknownWay}
 use Rattle.acl_listings.specs.declared.fault.FileFault.{FileFault}
 use Rattle.acl_listings.specs.declared.fault.FileFault.TheVariants as file
 use Rattle.acl_names.specs.Names.{Names}
 use Rattle.acl_posix.specs.Perms.{bits_of}
-use Rattle.acl_bridge.specs.Files.{File}
+use Rattle.acl_bridge.specs.Files.{File, view_acl}
 use Rattle.acl_people.specs.Host.{names_of_host}
 use Rattle.acl_reports.specs.Paths.{is_among}
 use Rattle.acl_reports.specs.Seen.{Splits}
@@ -21,17 +21,27 @@ use Rattle.acl_listing_queries.specs.RootSteps.{IsBegun}
 use Rattle.acl_listing_queries.specs.Ways.{chain_to, folder_of, holds, way_of, with_folder}
 use Rattle.acl_listing_queries.specs.WhoSteps.{lacks_path}
 use Rattle.acl_listing_queries.specs.WhyMeaning.{readings}
-use Rattle.acl_listing_queries.specs.WhyText.{WhyAsking, folder_text}
+use Rattle.acl_listing_queries.specs.WhyDeletion.{FileAt as FileAtValue}
+use Rattle.acl_listing_queries.specs.WhyText.{Deletion, Permissions, Sought, WhyAsking}
+use Rattle.acl_listing_queries.specs.WhyText.{folder_text}
+use Rattle.acl_listing_queries.specs.declared.why.deletion.FileAt.{FileAt}
 use Rattle.acl_listing_queries.specs.declared.why.folders.Folders.{Folders}
 use Rattle.acl_listing_queries.specs.declared.why.question.Question.{Question}
+use Rattle.acl_listing_queries.specs.declared.why.question.Sought.{Sought as SoughtAsked}
+use Rattle.acl_listing_queries.specs.declared.why.question.Sought.TheVariants as asked
 use Rattle.acl_listing_queries.specs.declared.why.way.Way.{Way}
+
+-- what is asked of a file
+abbrev pub sought_by : SoughtAsked → Sought
+sought_by (asked.Permissions perms) = Permissions (bits_of perms)
+sought_by asked.Deletion = Deletion
 
 -- what a question asks
 abbrev pub asked_by : Question → WhyAsking
 asked_by question = record {
   names = names_of_host question.host.now;
   who = question.requester.now;
-  perms = bits_of question.perms;
+  sought = sought_by question.sought;
 }
 
 -- what these texts say
@@ -57,29 +67,32 @@ is_held [] path = true
 is_held (folder ∷ above) path = holds folder.path path
 
 -- the last text is that of the nearest folder
-abbrev pub IsNearest : Option (Bor (List ℕ)) → List Reading → Type 0
-IsNearest None [] = ⊤
-IsNearest (Some text) (folder ∷ above) = path_of text.now ≡ folder.path
-IsNearest _ _ = ⊥
+abbrev pub IsNearest : Names → Option (Bor (List ℕ)) → List Reading → Type 0
+IsNearest names None [] = ⊤
+IsNearest names (Some text) (folder ∷ above) =
+    (path_of text.now ≡ folder.path) × (file_by names text.now ≡ folder.file)
+IsNearest names _ _ = ⊥
 
 -- the folders of this way are reported
-pub record AreTold (asking : WhyAsking) (way : List Reading) (folders : Folders) : Type 0 where
+pub record AreReported (asking : WhyAsking) (way : List Reading) (folders : Folders) : Type 0 where
   pub files : List File
   pub known : known_folders way ≡ Some files
   pub reach : folders.reach ≡ reaches files asking.who
   pub text : folders.text.items ≡ flat_map (folder_text asking.who) (reverse way)
-  pub last : IsNearest folders.last way
+  pub last : IsNearest asking.names folders.last way
 
 -- and they are all those on the way to a block
-pub record IsWayTold (asking : WhyAsking) (way : List Reading) (here : Reading) (folders : Folders)
+pub record IsWayReported (asking : WhyAsking) (way : List Reading) (here : Reading)
+    (folders : Folders)
     : Type 0 where
   pub files : List File
   pub known : chain_to way here ≡ Some files
   pub reach : folders.reach ≡ reaches files asking.who
   pub text : folders.text.items ≡ flat_map (folder_text asking.who) (reverse way)
+  pub last : IsNearest asking.names folders.last way
 
 -- they aren't known; out of memory says nothing
-abbrev pub IsUnknown : Option (List File) → FileFault → Type 0
+abbrev pub IsUnknown : {X : Type 0} → Option X → FileFault → Type 0
 IsUnknown known (file.Block fault) = (known ≡ None) × (fault ≡ UnknownWay)
 IsUnknown known file.Memory = ⊤
 
@@ -90,3 +103,7 @@ pub record IsSought (names : Names) (path : List ℕ) (coming left : Option (Lis
   pub splits : Splits coming seen left
   pub none : is_among path seen ≡ false
   pub way_is : IsWayTo names path (readings names seen) way
+
+-- a file and its path, without where they lie in memory
+abbrev pub view_at : FileAt → FileAtValue
+view_at at = record { path = at.path.now; file = view_acl at.acl }

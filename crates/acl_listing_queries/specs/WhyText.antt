@@ -1,42 +1,35 @@
 -- Why somebody may do something with a file, or may not: list by list.
-use Rattle.std.specs.Prelude.{ℕ, ◌&&◌, List, ◌++◌, Option, Some, None, Result, Ok, Err, [], codes}
-use Rattle.std.specs.Prelude.{reverse}
+use Rattle.std.specs.Prelude.{ℕ, ◌&&◌, Bool, List, [], ◌∷◌, ◌++◌, Option, Some, None, Result, Ok}
+use Rattle.std.specs.Prelude.{Err, codes, reverse}
 use Rattle.std.specs.List.{flat_map}
-use Rattle.acl_access.specs.Paths.{printed_path}
+use Rattle.acl_access.specs.Deletes.{deletes}
 use Rattle.acl_access.specs.Reach.{reaches}
 use Rattle.acl_listings.specs.Block.{FileValue}
 use Rattle.acl_listings.specs.declared.fault.BlockFault.{BlockFault}
 use Rattle.acl_listings.specs.declared.fault.BlockFault.TheVariants.{UnknownWay}
 use Rattle.acl_names.specs.Names.{Names}
 use Rattle.acl_names.specs.Requester.{Identity}
-use Rattle.acl_queries.specs.AclText.{nobody}
 use Rattle.acl_queries.specs.DecideAnswer.{answer_line}
-use Rattle.acl_queries.specs.Reasons.{reasons}
 use Rattle.acl_bridge.specs.Files.{File, may}
 use Rattle.acl_reports.specs.Files.{file_of}
 use Rattle.acl_reports.specs.Listed.{Part}
 use Rattle.acl_listing_queries.specs.Readings.{Reading, reading_of}
 use Rattle.acl_listing_queries.specs.Ways.{known_way, way_of}
+use Rattle.acl_listing_queries.specs.WhyDeletion.{FileAt, deletion_reasons}
+use Rattle.acl_listing_queries.specs.WhyReasons.{decision_text}
 
--- by which names blocks are read, who asks, and for which permissions
+-- what is asked: whether the permissions are granted, or whether the file may be deleted
+pub data Sought : Type 0 where
+  Permissions : ℕ → Sought
+  Deletion : Sought
+
+-- by which names blocks are read, who asks, and what
 pub record WhyAsking : Type 0 where
   pub names : Names
   pub who : Identity
-  pub perms : ℕ
+  pub sought : Sought
 
--- why its list decides as it does, as `explain` tells it
-abbrev pub file_reasons : File → Identity → ℕ → List ℕ
-file_reasons file who perms = reasons nobody (record {
-  owner = file.owners.owner;
-  group = file.owners.group;
-  requester = who;
-  request = perms;
-}) file.list
-
--- `WORD PATH granted` or `WORD PATH denied`, and why
-abbrev pub decision_text : List ℕ → List ℕ → File → Identity → ℕ → List ℕ
-decision_text word path file who perms = word ++ codes " " ++ printed_path path ++ codes " "
-    ++ answer_line (may file who perms) ++ file_reasons file who perms
+-- ---- the folders on the way
 
 -- of a folder that reads, whether it may be searched
 abbrev pub folder_text : Identity → Reading → List ℕ
@@ -46,17 +39,48 @@ folder_text who folder = by folder.file
     by (Ok file) = decision_text (codes "folder") file.path (file_of file) who 1
     by (Err fault) = []
 
--- Whether the file grants it to one who reaches it on this way; then each folder on the way, the
--- outermost first; and the file.
-abbrev pub why_text : WhyAsking → List File → List Reading → FileValue → List ℕ
-why_text asking folders way file =
-    answer_line (may (file_of file) asking.who asking.perms && reaches folders asking.who)
-    ++ flat_map (folder_text asking.who) (reverse way)
-    ++ decision_text (codes "file") file.path (file_of file) asking.who asking.perms
+-- the nearest of them, if it reads
+abbrev pub nearest : List Reading → Option FileValue
+nearest [] = None
+nearest (folder ∷ above) = by folder.file
+  where
+    by : Result FileValue BlockFault → Option FileValue
+    by (Ok file) = Some file
+    by (Err fault) = None
 
--- what is reported of a file on this way, whose folders are these, if they are known
+-- ---- the file
+
+abbrev pub file_at : FileValue → FileAt
+file_at file = record { path = file.path; file = file_of file }
+
+-- Whether the file grants it to one who reaches it or doesn't; then each folder on the way, of
+-- which this is reported; and the file.
+abbrev pub permissions_text : Identity → ℕ → Bool → List ℕ → FileAt → List ℕ
+permissions_text who perms reach folders at = answer_line (may at.file who perms && reach)
+    ++ folders ++ decision_text (codes "file") at.path at.file who perms
+
+-- whether one who reaches it may delete it from this folder; each folder on the way; and what
+-- decides
+abbrev pub deletion_text : Identity → Bool → List ℕ → FileValue → FileAt → List ℕ
+deletion_text who reach folders folder at =
+    answer_line (deletes folder.flags.sticky (file_of folder) at.file who && reach)
+    ++ folders ++ deletion_reasons folder.flags.sticky (file_at folder) at who
+
+-- what is asked of a file behind folders of which this is reported, and of which this is the
+-- nearest: without one it isn't known who may delete the file
+abbrev pub sought_part : Sought → Identity → Bool → List ℕ → Option FileValue → FileAt → Part
+sought_part (Permissions perms) who reach folders folder at =
+    Ok (permissions_text who perms reach folders at)
+sought_part Deletion who reach folders (Some folder) at =
+    Ok (deletion_text who reach folders folder at)
+sought_part Deletion who reach folders None at = Err UnknownWay
+
+-- what is reported for a file on this way, whose folders are these, if they are known: each folder,
+-- the outermost first
 abbrev pub why_on : WhyAsking → List Reading → FileValue → Option (List File) → Part
-why_on asking way file (Some folders) = Ok (why_text asking folders way file)
+why_on asking way file (Some folders) =
+    sought_part asking.sought asking.who (reaches folders asking.who)
+    (flat_map (folder_text asking.who) (reverse way)) (nearest way) (file_at file)
 why_on asking way file None = Err UnknownWay
 
 -- of a block that says this
@@ -65,7 +89,7 @@ abbrev pub why_by : WhyAsking → List Reading → Result FileValue BlockFault �
 why_by asking way (Ok file) folders = why_on asking way file folders
 why_by asking way (Err fault) folders = Err fault
 
--- what `why` tells of a block, by its text and what those before it say
+-- what `why` reports for a block, by its text and what those before it say
 abbrev pub why_part : WhyAsking → List Reading → List ℕ → Part
 why_part asking earlier text =
     let here = reading_of asking.names text in

@@ -6,13 +6,12 @@ ghost use Rattle.acl_listing_queries.specs.RootSteps.{IsBegun, is_begun_above};
 ghost use Rattle.acl_listing_queries.specs.Ways.{begins_apart};
 ghost use Rattle.acl_listing_queries.specs.WhoSteps.{lacks_path};
 
-use crate::above::is_above;
 use crate::roots::Roots;
+use acl_listings::is_above;
 use std::alloc::{AllocError, Global};
 
-/// With which block the way to the last block begins, and whether all ways so far begin apart from
-/// each other. A way begins with the block that all others on it are below, so it is enough to look
-/// at that one.
+/// The block with which the way to the last block begins, and whether all ways so far begin apart
+/// from each other. All other blocks on a way are below its first, so only that one is compared.
 #[derive(Drop)]
 pub(crate) struct Beginning {
     /// The path of that block, if there was a block.
@@ -23,7 +22,7 @@ pub(crate) struct Beginning {
 }
 
 impl Beginning {
-    /// Behind no block.
+    /// Before any block.
     pub fn new(alloc: Global) -> Beginning
         ensures { IsBegun result [] }
     {
@@ -34,7 +33,7 @@ impl Beginning {
         }
     }
 
-    /// Whether what has the path is below the block with which the last way began.
+    /// Whether the path is below the block with which the last way began.
     fn is_above(&self, path: &[u8]) -> bool
         ensures { result ≡ is_begun_above self.now.path path.now }
     {
@@ -44,8 +43,8 @@ impl Beginning {
         }
     }
 
-    /// Goes on to a block with this path, and returns whether all ways up to its own begin apart
-    /// from each other. It fails only if memory runs out.
+    /// Goes on to a block with this path, and returns whether all ways so far, its own included,
+    /// begin apart from each other. Fails only if memory runs out.
     pub fn come_to(&mut self, alloc: Global, path: &[u8]) -> Result<bool, AllocError>
         ensures apart { (earlier : List Reading) (here : Reading) → IsBegun self.old earlier
             → list_any lacks_path earlier ≡ false → here.path ≡ Some path.now

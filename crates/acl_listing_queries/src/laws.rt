@@ -1,22 +1,39 @@
-//! The law of the way to a file, over the definitions alone, and how much is kept.
+//! The laws of the way to a file and of the entries that decide, over the definitions alone, and
+//! how much is kept.
 ghost use Rattle.std.specs.Prelude.{◌≡◌};
+ghost use Rattle.acl_listing_queries.specs.DeletionLaws.{DeletionsAgree};
+ghost use Rattle.acl_listing_queries.specs.ViaLaws.{EntriesGrant, NumbersAllow};
 ghost use Rattle.acl_listing_queries.specs.WayLaws.{WaysAreAllAbove, WaysHaveAllAbove};
 ghost use Rattle.acl_listing_queries.specs.WayLaws.{WaysHaveAllBefore};
-ghost use Rattle.acl_listing_queries.specs.declared.who.answers.TheConstants.{PLACES};
+ghost use Rattle.acl_listing_queries.specs.declared.places.TheConstants.{PLACES};
 
-/// In a listing where a folder stands before what is in it, and all of that before anything else,
-/// the way to a file is all the blocks whose paths are above its path, the nearest first. Whatever
-/// the order, if the way to a block is known, it has every folder above the block that stands
-/// before it; and if the way to each is known, every one that the listing has. There is nothing to
-/// run here: a proof cites the contract.
+/// In a listing in which each folder comes before its content, and that before anything else, the
+/// way to a file is all blocks whose paths are parents of its path, the nearest first. In any
+/// order, if the way to a block is known, it has every parent folder that comes before the block;
+/// and if the way to each is known, every parent folder in the listing. There is nothing to run
+/// here: a proof cites the contract.
 pub fn way_laws()
     ensures above { WaysAreAllAbove }
     ensures before { WaysHaveAllBefore }
     ensures any_order { WaysHaveAllAbove }
 {}
 
-/// Of how many files with different lines the answers are kept at once, as a number. There is
-/// nothing to run here: a proof cites the contract.
+/// A POSIX list grants permissions at once exactly if `who --via` prints an entry for them, and
+/// each entry of an NFSv4 list whose number it prints allows something. There is nothing to run
+/// here: a proof cites the contract.
+pub fn via_laws()
+    ensures grant { EntriesGrant }
+    ensures allow { NumbersAllow }
+{}
+
+/// The first line of `why --delete` is `granted` exactly if `who --delete` prints a line with this
+/// user and this path. There is nothing to run here: a proof cites the contract.
+pub fn deletion_laws()
+    ensures agree { DeletionsAgree }
+{}
+
+/// How many answers for files with different lines are cached, as a number. There is nothing to run
+/// here: a proof cites the contract.
 pub fn limits_in_numbers()
     ensures places { PLACES ≡ 256 }
 {}

@@ -1,7 +1,9 @@
 //! `why` of a listing.
 
 mod answer;
+mod asked;
 mod command;
+mod deletion;
 mod folders;
 mod question;
 mod search;

@@ -3,7 +3,7 @@ use Rattle.std.proofs.Common.{◌≡◌, ◌∙◌, ◌++◌, ◌&&◌, not, ℕ
 use Rattle.std.specs.Prelude.{IfSome}
 use Rattle.acl_cli.specs.Commands.{Answer, FrontWentOut, WentOut}
 use Rattle.acl_cli.specs.ErrorOutput.{ErrorText}
-use Rattle.acl_cli.specs.Telling.{is_empty}
+use Rattle.acl_cli.specs.Reporting.{is_empty}
 use Rattle.acl_cli.specs.declared.command.Ending.{Ending}
 use Rattle.acl_listings.specs.Cursor.{blocks_to_come}
 use Rattle.acl_listings.specs.Listing.{Block}

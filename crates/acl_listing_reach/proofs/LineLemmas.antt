@@ -8,7 +8,7 @@ use Rattle.std.proofs.lemmas.Bool.Decides.{Decides-eqb}
 use Rattle.acl_names.specs.Bits.{without}
 use Rattle.acl_names.specs.Requester.{Identity}
 use Rattle.acl_bridge.specs.Comparison.{mask_for}
-use Rattle.acl_cli.specs.Telling.{is_empty}
+use Rattle.acl_cli.specs.Reporting.{is_empty}
 use Rattle.acl_people.specs.Asked.{persons_of}
 use Rattle.acl_people.specs.Person.{Person}
 use Rattle.acl_listing_changes.specs.ImpactText.{line_at, person_text}
@@ -22,11 +22,11 @@ module _ {X : Type 0} (f : ℕ × X → List ℕ) (number : ℕ) where
   abbrev pub here : ℕ → List X → List ℕ
   here place items = option_map_or (λ item. f (number, item)) (slice_get items place) []
 
-  pub told_on : (place : ℕ) (items : List X) → flat_map f (enumerate_from number (drop place items)) ≡ here place items ++ flat_map f (enumerate_from (number + 1) (drop (suc place) items))
-  told_on zero [] = refl
-  told_on zero (item ∷ items) = refl
-  told_on (suc place) [] = refl
-  told_on (suc place) (item ∷ items) = told_on place items
+  pub reported_on : (place : ℕ) (items : List X) → flat_map f (enumerate_from number (drop place items)) ≡ here place items ++ flat_map f (enumerate_from (number + 1) (drop (suc place) items))
+  reported_on zero [] = refl
+  reported_on zero (item ∷ items) = refl
+  reported_on (suc place) [] = refl
+  reported_on (suc place) (item ∷ items) = reported_on place items
 
   -- the first that there is stands further on, or here
   pub first_on : (place : ℕ) (items : List X) → here place items ≡ [] → first_of (map f (enumerate_from number (drop place items))) ≡ first_of (map f (enumerate_from (number + 1) (drop (suc place) items)))
@@ -78,7 +78,7 @@ module _ (old new path : List ℕ) (persons : List Person) where
       → first ++ all_lines persons old new path ≡ out' ++ rest_lines (place + 1)
   all_more place first out out' was is =
       let one : suc place ≡ place + 1 = omega arith in
-      was ∙ ap (λ rest. out ++ rest) (told_on (line_for old new path) place place persons)
+      was ∙ ap (λ rest. out ++ rest) (reported_on (line_for old new path) place place persons)
       ∙ sym (append_assoc out (line_there persons old new path place) (flat_map (line_for old new path) (enumerate_from (place + 1) (drop (suc place) persons))))
       ∙ ap (λ front. front ++ flat_map (line_for old new path) (enumerate_from (place + 1) (drop (suc place) persons))) (sym is)
       ∙ ap (λ n. out' ++ flat_map (line_for old new path) (enumerate_from (place + 1) (drop n persons))) one

@@ -1,4 +1,4 @@
--- What is told where the answers of `who --reach` differ.
+-- What is reported where the answers of `who --reach` differ.
 use Rattle.std.proofs.Common.{◌≡◌, ◌∙◌, ◌+◌, ◌++◌, ◌==◌, ℕ, zero, suc, Bool, true, false, cond, List, [], ◌∷◌, Some, ap, append_assoc, arith, get_or, length, length-append, refl, sym}
 use Rattle.std.specs.Prelude.{slice_get}
 use Rattle.std.specs.List.{enumerate_from, flat_map}
@@ -12,7 +12,7 @@ use Rattle.acl_bridge.specs.Comparison.{mask_for}
 use Rattle.acl_bridge.specs.Files.{File, may}
 use Rattle.acl_people.specs.Person.{Person}
 use Rattle.acl_listing_changes.specs.ImpactText.{person_text}
-use Rattle.acl_listing_queries.specs.WhoText.{letters_line_if, number_told, person_line, person_told}
+use Rattle.acl_listing_queries.specs.WhoText.{letters_line_if, number_reported, person_line, person_reported}
 use Rattle.acl_listing_reach.specs.ReachLaws.{LettersAreThoseOfWho, LinesAreWhereAnswersDiffer}
 use Rattle.acl_listing_reach.specs.ReachText.{change_line, line_for, number_at}
 
@@ -27,7 +27,7 @@ module _ (way : List File) (file : File) where
   number_of person = cond (reaches way person.who) (effective file person.who) 0
 
   abbrev numbers : List Person → List ℕ
-  numbers persons = flat_map (person_told number_told effective way file) persons
+  numbers persons = flat_map (person_reported number_reported effective way file) persons
 
   pub number_there : (persons : List Person) (place : ℕ) (person : Person) → slice_get persons place ≡ Some person → get_or (numbers persons) place 0 ≡ number_of person
   number_there [] place person is = absurd (cc)

@@ -1,4 +1,4 @@
--- What is reported of two listings, one path more.
+-- What is reported for two listings, one path more.
 use Rattle.std.proofs.Common.{◌≡◌, ◌∙◌, ◌≤◌, ◌+◌, ◌++◌, ◌||◌, ℕ, zero, suc, Bool, true, false, List, [], ◌∷◌, Option, Some, None, ap, append_assoc, append-nil, arith, drop, length, min, refl, subst, sym, take}
 use Rattle.std.specs.Prelude.{slice_get}
 use Rattle.std.specs.Io.KnownBytes.{Appends}
@@ -6,26 +6,26 @@ use Rattle.std.specs.List.{flat_map, list_any}
 use Rattle.std.specs.Option.{option_map_or}
 use Rattle.std.proofs.lemmas.List.{take-append-le, take_min}
 use Rattle.acl_cli.specs.Output.{AppendsFront}
-use Rattle.acl_cli.specs.Telling.{LeadsOn}
+use Rattle.acl_cli.specs.Reporting.{LeadsOn}
 use Rattle.acl_listing_reach.specs.Once.{At}
 use Rattle.acl_listing_reach.specs.ReachAnswer.{first_path}
 use Rattle.acl_listing_reach.specs.ReachText.{ReachAsking, after_text, gone_text}
-use Rattle.acl_listing_reach.specs.ReportSteps.{BeginsLeft, TellsLeft, left_text}
+use Rattle.acl_listing_reach.specs.ReportSteps.{BeginsLeft, ReportsLeft, left_text}
 use Rattle.acl_listing_reach.specs.declared.report.Stage.TheVariants as stage
 
 -- ---- of what stands at a place, and behind it
 
 module _ {X : Type 0} where
-  told_on : (f : X → List ℕ) (place : ℕ) (items : List X) → flat_map f (drop place items) ≡ option_map_or f (slice_get items place) [] ++ flat_map f (drop (suc place) items)
-  told_on f zero [] = refl
-  told_on f zero (item ∷ items) = refl
-  told_on f (suc place) [] = refl
-  told_on f (suc place) (item ∷ items) = told_on f place items
+  reported_on : (f : X → List ℕ) (place : ℕ) (items : List X) → flat_map f (drop place items) ≡ option_map_or f (slice_get items place) [] ++ flat_map f (drop (suc place) items)
+  reported_on f zero [] = refl
+  reported_on f zero (item ∷ items) = refl
+  reported_on f (suc place) [] = refl
+  reported_on f (suc place) (item ∷ items) = reported_on f place items
 
-  told_more : (f : X → List ℕ) (place : ℕ) (items : List X) → flat_map f (drop place items) ≡ option_map_or f (slice_get items place) [] ++ flat_map f (drop (place + 1) items)
-  told_more f place items =
+  reported_more : (f : X → List ℕ) (place : ℕ) (items : List X) → flat_map f (drop place items) ≡ option_map_or f (slice_get items place) [] ++ flat_map f (drop (place + 1) items)
+  reported_more f place items =
       let one : suc place ≡ place + 1 = omega arith in
-      told_on f place items ∙ ap (λ n. option_map_or f (slice_get items place) [] ++ flat_map f (drop n items)) one
+      reported_on f place items ∙ ap (λ n. option_map_or f (slice_get items place) [] ++ flat_map f (drop n items)) one
 
   drop_past : (items : List X) (place : ℕ) → length items ≤ place → drop place items ≡ []
   drop_past [] zero past = refl
@@ -54,27 +54,27 @@ module _ {X : Type 0} where
 module _ (asking : ReachAsking) (before after : List At) (place : ℕ) where
   pub left_after : left_text asking before after (stage.After place) ≡ option_map_or (after_text asking before) (slice_get after place) [] ++ left_text asking before after (stage.After (place + 1))
   left_after =
-      ap (λ text. text ++ flat_map (gone_text asking after) before) (told_more (after_text asking before) place after)
+      ap (λ text. text ++ flat_map (gone_text asking after) before) (reported_more (after_text asking before) place after)
       ∙ append_assoc (option_map_or (after_text asking before) (slice_get after place) []) (flat_map (after_text asking before) (drop (place + 1) after)) (flat_map (gone_text asking after) before)
 
   pub left_between : length after ≤ place → left_text asking before after (stage.After place) ≡ left_text asking before after (stage.Gone 0)
   left_between past = ap (λ ats. flat_map (after_text asking before) ats ++ flat_map (gone_text asking after) before) (drop_past after place past)
 
   pub left_gone : left_text asking before after (stage.Gone place) ≡ option_map_or (gone_text asking after) (slice_get before place) [] ++ left_text asking before after (stage.Gone (place + 1))
-  left_gone = told_more (gone_text asking after) place before
+  left_gone = reported_more (gone_text asking after) place before
 
   pub left_none : length before ≤ place → left_text asking before after (stage.Gone place) ≡ []
   left_none past = ap (flat_map (gone_text asking after)) (drop_past before place past)
 
 -- ---- one step
 
-module _ (old told new : List ℕ) (is : old ≡ told ++ new) where
-  tells_on : LeadsOn (TellsLeft old) (TellsLeft new) told []
-  tells_on = λ rest others tells. (ap (λ rest. told ++ rest) tells.0 ∙ sym is, tells.1)
+module _ (old reported new : List ℕ) (is : old ≡ reported ++ new) where
+  reports_on : LeadsOn (ReportsLeft old) (ReportsLeft new) reported []
+  reports_on = λ rest others reports. (ap (λ rest. reported ++ rest) reports.0 ∙ sym is, reports.1)
 
-  begins_on : LeadsOn (BeginsLeft old) (BeginsLeft new) told []
+  begins_on : LeadsOn (BeginsLeft old) (BeginsLeft new) reported []
   begins_on = λ rest others begins. (
-    (begins.0.0, is ∙ ap (λ rest. told ++ rest) begins.0.1 ∙ sym (append_assoc told rest begins.0.0)),
+    (begins.0.0, is ∙ ap (λ rest. reported ++ rest) begins.0.1 ∙ sym (append_assoc reported rest begins.0.0)),
     begins.1,
   )
 
@@ -82,12 +82,12 @@ module _ (old told new : List ℕ) (is : old ≡ told ++ new) where
   begins_now = ((new, refl), refl)
 
   -- what was appended, and nothing beside it
-  abbrev pub IsToldOn : List ℕ → List ℕ → List ℕ → Type 0
-  IsToldOn out out' beside = (more : List ℕ) × (others : List ℕ) × (out' ≡ out ++ more) × (beside ≡ beside ++ others)
-      × LeadsOn (TellsLeft old) (TellsLeft new) more others × LeadsOn (BeginsLeft old) (BeginsLeft new) more others × BeginsLeft new [] []
+  abbrev pub IsReportedOn : List ℕ → List ℕ → List ℕ → Type 0
+  IsReportedOn out out' beside = (more : List ℕ) × (others : List ℕ) × (out' ≡ out ++ more) × (beside ≡ beside ++ others)
+      × LeadsOn (ReportsLeft old) (ReportsLeft new) more others × LeadsOn (BeginsLeft old) (BeginsLeft new) more others × BeginsLeft new [] []
 
-  pub told_step : (out out' beside : List ℕ) → out' ≡ out ++ told → IsToldOn out out' beside
-  told_step out out' beside appended = (told, [], appended, sym (append-nil beside), tells_on, begins_on, begins_now)
+  pub reported_step : (out out' beside : List ℕ) → out' ≡ out ++ reported → IsReportedOn out out' beside
+  reported_step out out' beside appended = (reported, [], appended, sym (append-nil beside), reports_on, begins_on, begins_now)
 
 -- a front of the first of a text is one of all of it
 pub front_whole : (old new : Option (List ℕ)) (whole text rest : List ℕ) → whole ≡ text ++ rest → AppendsFront old new text → AppendsFront old new whole

@@ -1,8 +1,8 @@
--- What is told of two listings by what was answered of each. Private steps, which no public clause
--- cites.
+-- What is reported for two listings by what was answered of each. Private steps, which no public
+-- clause cites.
 use Rattle.std.specs.Prelude.{◌≡◌, ℕ, List, ◌++◌, ◌&&◌, not}
 use Rattle.acl_cli.specs.Commands.{Answer}
-use Rattle.acl_cli.specs.Telling.{is_empty}
+use Rattle.acl_cli.specs.Reporting.{is_empty}
 use Rattle.acl_reports.specs.Listed.{closing, ending_of}
 use Rattle.acl_listing_changes.specs.Changes.{ending_of_both, with_difference}
 use Rattle.acl_listing_reach.specs.ReachAnswer.{apart_text}

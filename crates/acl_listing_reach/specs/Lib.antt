@@ -2,8 +2,9 @@ pub mod Once
 pub mod ReachText
 pub mod ReachAnswer
 pub mod Sources
-pub mod Reporting
+pub mod Asking
 pub mod ReachMeaning
+pub mod CommandSteps
 pub mod ImpactLine
 pub mod ImpactMeaning
 pub mod ReachLaws

@@ -1,4 +1,5 @@
--- How the lines of people are told by their places. Private steps, which no public clause cites.
+-- How the lines of people are reported by their places. Private steps, which no public clause
+-- cites.
 use Rattle.std.specs.Prelude.{ℕ, List, [], slice_get}
 use Rattle.std.specs.Option.{option_map_or}
 use Rattle.acl_people.specs.Person.{Person}

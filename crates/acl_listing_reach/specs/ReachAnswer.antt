@@ -1,10 +1,10 @@
--- What is reported of two listings by reach, and how the answer ends.
+-- What is reported for two listings by reach, and how the answer ends.
 use Rattle.std.specs.Prelude.{◌≡◌, ℕ, Bool, false, not, ◌&&◌, List, [], ◌∷◌, ◌++◌, Option}
 use Rattle.std.specs.Prelude.{Some, None}
 use Rattle.std.specs.List.{list_any}
 use Rattle.acl_names.specs.Names.{Names}
 use Rattle.acl_cli.specs.Commands.{Answer}
-use Rattle.acl_cli.specs.Telling.{is_empty}
+use Rattle.acl_cli.specs.Reporting.{is_empty}
 use Rattle.acl_cli.specs.declared.command.Ending.{Ending}
 use Rattle.acl_reports.specs.Listed.{AreSaid, Item, closing, ending_of, no_blocks, tally_with}
 use Rattle.acl_reports.specs.declared.tally.Tally.{Tally}
@@ -39,7 +39,7 @@ abbrev pub apart_text : List At → List At → List ℕ
 apart_text before after = apart_by (list_any (λ at. has_path at.path before) after)
     (first_path before) (first_path after)
 
--- The texts are what is reported of both, and what is said of them: the faults of the listing
+-- The texts are what is reported for both, and what is said of them: the faults of the listing
 -- before, and how many there are; and those of the listing after.
 pub record IsReport (asking : ReachAsking) (before after : Side) (text beside : List ℕ) : Type 0
   where

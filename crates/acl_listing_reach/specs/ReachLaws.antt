@@ -1,4 +1,4 @@
--- `impact --reach` tells where the answers of `who --reach` differ.
+-- `impact --reach` reports where the answers of `who --reach` differ.
 use Rattle.std.specs.Prelude.{◌≡◌, ◌↔◌, ℕ, List, [], Some, slice_get}
 use Rattle.std.specs.List.{enumerate_from, flat_map}
 use Rattle.acl_access.specs.Letters.{effective}
@@ -9,8 +9,8 @@ use Rattle.acl_listing_queries.specs.WhoText.{Numbers, ThreeLetters, letters_lin
 use Rattle.acl_listing_queries.specs.WhoText.{who_text}
 use Rattle.acl_listing_reach.specs.ReachText.{line_for, number_at}
 
--- What `who --reach` tells of a file is, of each who is asked about, the line of the letters that
--- are kept.
+-- What `who --reach` reports for a file is, of each who is asked about, the line of the letters
+-- that are kept.
 abbrev pub LettersAreThoseOfWho : Type 0
 LettersAreThoseOfWho = (persons : List Person) (way : List File) (path : List ℕ) (file : File)
     → who_text persons ThreeLetters way path file
@@ -18,7 +18,7 @@ LettersAreThoseOfWho = (persons : List Person) (way : List File) (path : List �
     (number_at (who_text persons Numbers way path file) here.0)) (enumerate_from 0 persons)
 
 -- Of one file on its way that becomes another on its own, there is no line of somebody exactly if
--- `who --reach` tells the same of both.
+-- `who --reach` reports the same of both.
 abbrev pub LinesAreWhereAnswersDiffer : Type 0
 LinesAreWhereAnswersDiffer = (persons : List Person) (place : ℕ) (person : Person)
     → slice_get persons place ≡ Some person

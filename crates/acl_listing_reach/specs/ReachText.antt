@@ -5,13 +5,13 @@ use Rattle.std.specs.List.{enumerate_from, flat_map}
 use Rattle.acl_names.specs.Bits.{without}
 use Rattle.acl_access.specs.Paths.{printed_path}
 use Rattle.acl_bridge.specs.Comparison.{mask_for}
-use Rattle.acl_cli.specs.Telling.{is_empty}
+use Rattle.acl_cli.specs.Reporting.{is_empty}
 use Rattle.acl_people.specs.Person.{Person}
 use Rattle.acl_listing_changes.specs.ImpactText.{path_text, person_text}
 use Rattle.acl_listing_reach.specs.Once.{At, has_path, letters_for}
 
--- who is asked about; whether each of them has a line, and not only the first; and whether the exit
--- status tells that there is a line
+-- the users to evaluate; whether each affected user has a line, and not only the first; and whether
+-- the exit status reports that there is a line
 pub record ReachAsking : Type 0 where
   pub persons : List Person
   pub each : Bool
@@ -26,7 +26,7 @@ abbrev pub change_line : ℕ → ℕ → List ℕ → Person → List ℕ
 change_line old new path person = if old == new then []
     else person_text person (mask_for (without old new)) (mask_for (without new old)) path
 
--- of who is asked about at a place
+-- of the user at a place
 abbrev pub line_for : List ℕ → List ℕ → List ℕ → ℕ × Person → List ℕ
 line_for old new path here =
     change_line (number_at old here.0) (number_at new here.0) path here.1

@@ -7,7 +7,7 @@ ghost use Rattle.acl_listings.specs.Cursor.{blocks_to_come};
 ghost use Rattle.acl_people.specs.Host.{names_of_host};
 ghost use Rattle.acl_reports.specs.Listed.{IsSaid, Item, items_after};
 ghost use Rattle.acl_reports.specs.Listed.{fault_in, no_blocks, with_item};
-ghost use Rattle.acl_reports.specs.Telling.{IsListingFailure};
+ghost use Rattle.acl_reports.specs.Reporting.{IsListingFailure};
 ghost use Rattle.acl_listing_changes.specs.Changes.{part_of};
 ghost use Rattle.acl_listing_reach.specs.AnsweredSteps.{AreAnswered, AreListed, IsPartBy};
 ghost use Rattle.acl_listing_reach.specs.AnsweredSteps.{letters_unless};
@@ -18,7 +18,7 @@ use acl_cli::Failure;
 use acl_listing_changes::unless_repeated;
 use acl_listings::{BlockFault, Blocks, FileFault, path_of};
 use acl_people::Host;
-use acl_reports::{BlockTeller, Tally, advance, push_fault};
+use acl_reports::{BlockReporter, Tally, advance, push_fault};
 use std::alloc::{AllocError, Global};
 use std::io::Read;
 
@@ -33,21 +33,21 @@ pub(crate) struct Answered {
 
 /// Answers a block in place of what `letters` had. Returns what is wrong with it, if anything is;
 /// else `letters` are what it results in. It fails only if memory runs out.
-fn letters_of<T: BlockTeller>(
+fn letters_of<T: BlockReporter>(
     alloc: Global,
-    teller: &mut T,
+    reporter: &mut T,
     text: &[u8],
     letters: &mut Vec<u8>,
 ) -> Result<Option<BlockFault>, AllocError>
-    ensures same { OnOk result (T.part teller.new ≡ T.part teller.old) }
-    ensures stands { (earlier : List (List ℕ)) → T.Stands teller.old earlier
-        → OnOk result (T.Stands teller.new (earlier ++ text.now ∷ [])) }
-    ensures part { (earlier : List (List ℕ)) → T.Stands teller.old earlier
-        → IfOk result (λ fault. IsPartBy (T.part teller.old earlier text.now) fault
+    ensures same { OnOk result (T.part reporter.new ≡ T.part reporter.old) }
+    ensures stands { (earlier : List (List ℕ)) → T.Stands reporter.old earlier
+        → OnOk result (T.Stands reporter.new (earlier ++ text.now ∷ [])) }
+    ensures part { (earlier : List (List ℕ)) → T.Stands reporter.old earlier
+        → IfOk result (λ fault. IsPartBy (T.part reporter.old earlier text.now) fault
         letters.new.items) }
 {
     letters.clear();
-    match teller.push(alloc, text, letters) {
+    match reporter.push(alloc, text, letters) {
         Ok(()) => Ok(None),
         Err(FileFault::Block(fault)) => Ok(Some(fault)),
         Err(FileFault::Memory) => Err(AllocError),
@@ -151,32 +151,32 @@ impl Answered {
 
     /// Answers one block more of the listing of this name. In `letters` is what the last one
     /// resulted in.
-    fn add<'n, T: BlockTeller>(
+    fn add<'n, T: BlockReporter>(
         &mut self,
         alloc: Global,
         name: &'n str,
         host: &Host,
-        teller: &mut T,
+        reporter: &mut T,
         line: u64,
         text: &[u8],
         letters: &mut Vec<u8>,
     ) -> Result<(), Failure<'n>>
-        ensures same { OnOk result (T.part teller.new ≡ T.part teller.old) }
-        ensures stands { (earlier : List (List ℕ)) → T.Stands teller.old earlier
-            → OnOk result (T.Stands teller.new (earlier ++ text.now ∷ [])) }
+        ensures same { OnOk result (T.part reporter.new ≡ T.part reporter.old) }
+        ensures stands { (earlier : List (List ℕ)) → T.Stands reporter.old earlier
+            → OnOk result (T.Stands reporter.new (earlier ++ text.now ∷ [])) }
         ensures answered { (earlier : List (List ℕ)) (items : List Item)
-            → T.Stands teller.old earlier → AreListed earlier self.old.known
+            → T.Stands reporter.old earlier → AreListed earlier self.old.known
             → AreAnswered name.entry.now (names_of_host host.now) items self.old.known
             self.old.said.items self.old.tally
             → OnOk result (AreAnswered name.entry.now (names_of_host host.now)
             (items ++ record {
               block = record { line = line; text = text.now };
-              part = part_once (T.part teller.old) earlier text.now;
+              part = part_once (T.part reporter.old) earlier text.now;
             } ∷ []) self.new.known self.new.said.items self.new.tally
             × AreListed (earlier ++ text.now ∷ []) self.new.known) }
         ensures failed { IfErr result (IsListingFailure name.entry.now) }
     {
-        let own = letters_of(alloc, teller, text, letters)?;
+        let own = letters_of(alloc, reporter, text, letters)?;
         let repeated = is_known(&self.known, text);
         let fault = unless_repeated(repeated, own);
         say(name, host, line, text, fault, &mut self.said)?;
@@ -188,22 +188,22 @@ impl Answered {
 }
 
 /// Answers the blocks that are still to come, of the listing of this name.
-fn answer_each<'n, T: BlockTeller + Drop, R: Read + Drop>(
+fn answer_each<'n, T: BlockReporter + Drop, R: Read + Drop>(
     alloc: Global,
     name: &'n str,
     host: &Host,
-    teller: T,
+    reporter: T,
     blocks: &mut Blocks<R>,
 ) -> Result<Answered, Failure<'n>>
-    requires { T.Stands teller [] }
+    requires { T.Stands reporter [] }
     ensures answered { IfOk result (λ answered. IfSome blocks.old.coming (λ blocks.
         AreAnswered name.entry.now (names_of_host host.now)
-        (items_after (part_once (T.part teller)) [] blocks) answered.known answered.said.items
+        (items_after (part_once (T.part reporter)) [] blocks) answered.known answered.said.items
         answered.tally)) }
     ensures failed { IfErr result (IsListingFailure name.entry.now) }
 {
     let mut answered = Answered::new(alloc);
-    let mut teller = teller;
+    let mut reporter = reporter;
     let mut letters = Vec::new(alloc);
     for _ in 0..u64::MAX {
         if !advance(name, blocks)? {
@@ -213,7 +213,7 @@ fn answer_each<'n, T: BlockTeller + Drop, R: Read + Drop>(
             alloc,
             name,
             host,
-            &mut teller,
+            &mut reporter,
             blocks.line(),
             blocks.text(),
             &mut letters,
@@ -225,20 +225,20 @@ fn answer_each<'n, T: BlockTeller + Drop, R: Read + Drop>(
 
 /// What is answered of the listing of this name that the reader reads: of each path by the first
 /// block that has it.
-pub(crate) fn answer_listing<'n, T: BlockTeller + Drop, R: Read + Drop>(
+pub(crate) fn answer_listing<'n, T: BlockReporter + Drop, R: Read + Drop>(
     alloc: Global,
     name: &'n str,
     host: &Host,
-    teller: T,
+    reporter: T,
     reader: R,
 ) -> Result<Answered, Failure<'n>>
-    requires { T.Stands teller [] }
+    requires { T.Stands reporter [] }
     ensures answered { IfOk result (λ answered. IfSome (blocks_to_come 1 (R.remaining reader))
         (λ blocks. AreAnswered name.entry.now (names_of_host host.now)
-        (items_after (part_once (T.part teller)) [] blocks) answered.known answered.said.items
+        (items_after (part_once (T.part reporter)) [] blocks) answered.known answered.said.items
         answered.tally)) }
     ensures failed { IfErr result (IsListingFailure name.entry.now) }
 {
     let mut blocks = Blocks::new(alloc, reader)?;
-    answer_each(alloc, name, host, teller, &mut blocks)
+    answer_each(alloc, name, host, reporter, &mut blocks)
 }

@@ -1,31 +1,31 @@
-//! What is reported of two listings by reach.
+//! What is reported for two listings by reach.
 ghost use Rattle.std.specs.Prelude.{◌≡◌, ◌⊎◌, [], IfErr, IfOk, OnErr};
 ghost use Rattle.acl_cli.specs.Commands.{Comes, FrontWentOut, NothingWentOut, WentOut};
 ghost use Rattle.acl_cli.specs.Failures.{IsAnswerLack, failed_write};
 ghost use Rattle.acl_people.specs.Host.{names_of_host};
-ghost use Rattle.acl_reports.specs.Telling.{IsListingFailure};
+ghost use Rattle.acl_reports.specs.Reporting.{IsListingFailure};
 ghost use Rattle.acl_listing_reach.specs.BetweenSteps.{IsAnswerBy, IsBegunBy, said_by};
 ghost use Rattle.acl_listing_reach.specs.ReachAnswer.{IsReachAnswer, IsReachBegun};
-ghost use Rattle.acl_listing_reach.specs.Reporting.{asking_by};
+ghost use Rattle.acl_listing_reach.specs.Asking.{asking_by};
 ghost use Rattle.acl_listing_reach.specs.Sources.{OfSources, source_named, sources_meaning};
 
 use crate::answered::{Answered, answer_listing};
-use crate::lines::Reporting;
-use crate::report::{push_if_apart, tell_report};
+use crate::lines::Asking;
+use crate::report::{push_if_apart, report_report};
 use acl_cli::{Ending, ErrorOutput, Failure, Misuse, OpenFiles};
 use acl_listing_changes::{ending_of_both, open_listing, with_difference};
 use acl_people::Host;
-use acl_reports::{BlockTeller, INPUT};
+use acl_reports::{BlockReporter, INPUT};
 use std::alloc::{AllocError, Global};
 use std::io::{Read, Write};
 
 /// The listing of a name, and how its blocks are answered.
 #[derive(Drop)]
-pub(crate) struct Asked<'n, 't, T: BlockTeller + Drop> {
+pub(crate) struct Asked<'n, 't, T: BlockReporter + Drop> {
     pub name: &'n str,
     /// By whose names the line of a block is found that is at fault.
     pub host: &'t Host,
-    pub teller: T,
+    pub reporter: T,
 }
 
 /// What is said of two listings of these names.
@@ -47,10 +47,10 @@ fn said_of(
     Ok(said)
 }
 
-/// Writes what is reported of two listings of these names, of which this is answered.
-fn tell_answered<'n, W: Write, E: Write + Drop>(
+/// Writes what is reported for two listings of these names, of which this is answered.
+fn report_answered<'n, W: Write, E: Write + Drop>(
     alloc: Global,
-    reporting: Reporting<'_>,
+    asking: Asking<'_>,
     name: &'n str,
     before: &Answered,
     other: &'n str,
@@ -58,25 +58,25 @@ fn tell_answered<'n, W: Write, E: Write + Drop>(
     out: &mut W,
     err: &mut ErrorOutput<E>,
 ) -> Result<Ending, Failure<'n>>
-    ensures answered { IfOk result (λ ending. WentOut (IsAnswerBy (asking_by reporting.entry)
+    ensures answered { IfOk result (λ ending. WentOut (IsAnswerBy (asking_by asking.entry)
         name.entry.now before.now other.entry.now after.now) ending (W.contents out.old)
         (W.contents out.new) err.old err.new) }
     ensures cut { OnErr result (NothingWentOut (W.contents out.old) (W.contents out.new) err.old
-        err.new ⊎ FrontWentOut (IsBegunBy (asking_by reporting.entry) name.entry.now before.now
+        err.new ⊎ FrontWentOut (IsBegunBy (asking_by asking.entry) name.entry.now before.now
         other.entry.now after.now) (W.contents out.old) (W.contents out.new) err.old err.new) }
     ensures failed { IfErr result IsAnswerLack }
 {
     let said = said_of(alloc, name, before, other, after)?;
     err.write_text(said.as_slice());
-    let some = tell_report(alloc, reporting, &before.known, &after.known, out, err)?;
+    let some = report_report(alloc, asking, &before.known, &after.known, out, err)?;
     let ending = ending_of_both(before.tally.ending(), after.tally.ending());
-    Ok(with_difference(reporting.asks, some, ending))
+    Ok(with_difference(asking.asks, some, ending))
 }
 
-/// Writes what is reported of two listings, each of which has a reader.
-fn tell_both<'n, T, B, A, W, E>(
+/// Writes what is reported for two listings, each of which has a reader.
+fn report_both<'n, T, B, A, W, E>(
     alloc: Global,
-    reporting: Reporting<'_>,
+    asking: Asking<'_>,
     before: Asked<'n, '_, T>,
     reader: B,
     after: Asked<'n, '_, T>,
@@ -85,58 +85,56 @@ fn tell_both<'n, T, B, A, W, E>(
     err: &mut ErrorOutput<E>,
 ) -> Result<Ending, Failure<'n>>
 where
-    T: BlockTeller + Drop,
+    T: BlockReporter + Drop,
     B: Read + Drop,
     A: Read + Drop,
     W: Write,
     E: Write + Drop,
-    requires before { T.Stands before.teller [] }
-    requires after { T.Stands after.teller [] }
+    requires before { T.Stands before.reporter [] }
+    requires after { T.Stands after.reporter [] }
     ensures answered { IfOk result (λ ending. WentOut (OfSources
-        (IsReachAnswer (asking_by reporting.entry))
+        (IsReachAnswer (asking_by asking.entry))
         (record {
           name = before.entry.name.now;
           bytes = B.remaining reader;
           names = names_of_host before.entry.host.now;
-          part = T.part before.entry.teller;
+          part = T.part before.entry.reporter;
         })
         (record {
           name = after.entry.name.now;
           bytes = A.remaining other;
           names = names_of_host after.entry.host.now;
-          part = T.part after.entry.teller;
+          part = T.part after.entry.reporter;
         })) ending (W.contents out.old) (W.contents out.new) err.old err.new) }
     ensures cut { OnErr result (NothingWentOut (W.contents out.old) (W.contents out.new) err.old
         err.new ⊎ FrontWentOut (OfSources
-        (IsReachBegun (asking_by reporting.entry))
+        (IsReachBegun (asking_by asking.entry))
         (record {
           name = before.entry.name.now;
           bytes = B.remaining reader;
           names = names_of_host before.entry.host.now;
-          part = T.part before.entry.teller;
+          part = T.part before.entry.reporter;
         })
         (record {
           name = after.entry.name.now;
           bytes = A.remaining other;
           names = names_of_host after.entry.host.now;
-          part = T.part after.entry.teller;
+          part = T.part after.entry.reporter;
         })) (W.contents out.old) (W.contents out.new) err.old err.new) }
     ensures failed { IfErr result (λ failure. IsListingFailure before.entry.name.now failure
         ⊎ (IsListingFailure after.entry.name.now failure ⊎ (failure ≡ failed_write))) }
 {
     let name = before.name;
     let other_name = after.name;
-    let first = answer_listing(alloc, name, before.host, before.teller, reader)?;
-    let second = answer_listing(alloc, other_name, after.host, after.teller, other)?;
-    tell_answered(
-        alloc, reporting, name, &first, other_name, &second, out, err,
-    )
+    let first = answer_listing(alloc, name, before.host, before.reporter, reader)?;
+    let second = answer_listing(alloc, other_name, after.host, after.reporter, other)?;
+    report_answered(alloc, asking, name, &first, other_name, &second, out, err)
 }
 
-/// Writes what is reported of two listings, of which one may be `-`, which is `input`.
-pub(crate) fn tell_between<'n, T, F, I, W, E>(
+/// Writes what is reported for two listings, of which one may be `-`, which is `input`.
+pub(crate) fn report_between<'n, T, F, I, W, E>(
     alloc: Global,
-    reporting: Reporting<'_>,
+    asking: Asking<'_>,
     files: &F,
     before: Asked<'n, '_, T>,
     after: Asked<'n, '_, T>,
@@ -145,18 +143,18 @@ pub(crate) fn tell_between<'n, T, F, I, W, E>(
     err: &mut ErrorOutput<E>,
 ) -> Result<Ending, Failure<'n>>
 where
-    T: BlockTeller + Drop,
+    T: BlockReporter + Drop,
     F: OpenFiles,
     I: Read,
     W: Write,
     E: Write + Drop,
-    requires before { T.Stands before.teller [] }
-    requires after { T.Stands after.teller [] }
-    ensures { Comes (sources_meaning (asking_by reporting.entry)
+    requires before { T.Stands before.reporter [] }
+    requires after { T.Stands after.reporter [] }
+    ensures { Comes (sources_meaning (asking_by asking.entry)
         (source_named (F.bytes_of files.now) (I.remaining input.old)
-        (names_of_host before.entry.host.now) (T.part before.entry.teller) before.entry.name.now)
+        (names_of_host before.entry.host.now) (T.part before.entry.reporter) before.entry.name.now)
         (source_named (F.bytes_of files.now) (I.remaining input.old)
-        (names_of_host after.entry.host.now) (T.part after.entry.teller) after.entry.name.now))
+        (names_of_host after.entry.host.now) (T.part after.entry.reporter) after.entry.name.now))
         result (W.contents out.old) (W.contents out.new) err.old err.new input.old input.new }
 {
     if before.name == INPUT {
@@ -164,12 +162,12 @@ where
             return Err(Failure::Misuse(Misuse::InputTwice));
         }
         let later = open_listing(files, after.name)?;
-        return tell_both(alloc, reporting, before, input, after, later, out, err);
+        return report_both(alloc, asking, before, input, after, later, out, err);
     }
     let earlier = open_listing(files, before.name)?;
     if after.name == INPUT {
-        return tell_both(alloc, reporting, before, earlier, after, input, out, err);
+        return report_both(alloc, asking, before, earlier, after, input, out, err);
     }
     let later = open_listing(files, after.name)?;
-    tell_both(alloc, reporting, before, earlier, after, later, out, err)
+    report_both(alloc, asking, before, earlier, after, later, out, err)
 }

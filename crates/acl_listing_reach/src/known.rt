@@ -1,10 +1,11 @@
 //! The paths of a listing, and the letters of their files.
-ghost use Rattle.std.specs.Prelude.{◌≡◌, ◌++◌, ◌∷◌, [], false, IfOk, OnOk, Some};
+ghost use Rattle.std.specs.Prelude.{◌≡◌, ◌++◌, ◌∷◌, [], false, IfOk, OnOk, Some, true};
 ghost use Rattle.std.specs.Prelude.{length, map, option_map, slice_get};
 ghost use Rattle.acl_listing_reach.specs.KnownSteps.{IsGrown, IsWithin, at_in, letters_in};
 ghost use Rattle.acl_listing_reach.specs.Known.{shown_path};
 ghost use Rattle.acl_listing_reach.specs.Once.{At, has_path, letters_for};
 
+use acl_listing_queries::{PLACES, place_for_text};
 use indexmap::{IndexMap, IndexSet};
 use std::alloc::{AllocError, Global};
 use std::marker::Model;
@@ -24,6 +25,9 @@ pub(crate) struct KnownPaths {
     paths: IndexMap<Vec<u8>, Option<usize>>,
     /// The letters that there are, each once: most files have those of many others.
     letters: IndexSet<Vec<u8>>,
+    /// Where letters may stand, by the place that they have as a text: there they are looked for
+    /// first.
+    guesses: [usize; PLACES],
 }
 
 impl Model for KnownPaths {
@@ -36,6 +40,16 @@ impl Model for KnownPaths {
     ghost view = { λ inside. map (at_in inside.letters.keys) inside.paths.entries };
 
     ghost invariant = { λ inside. AreWithin (length inside.letters.keys) inside.paths.entries };
+}
+
+/// Whether these letters are those at the place.
+fn are_at(known: &IndexSet<Vec<u8>>, place: usize, letters: &[u8]) -> bool
+    ensures { result ≡ true → letters_in known.now.keys (Some place) ≡ Some letters.now }
+{
+    match known.get_index(place) {
+        Some(found) => found.as_slice() == letters,
+        None => false,
+    }
 }
 
 /// The place of these letters among those that there are, to which they are added if they are new.
@@ -59,10 +73,32 @@ fn place_for(
     }
 }
 
+/// The same, with a look where they may stand before.
+fn guessed_place_for(
+    alloc: Global,
+    known: &mut IndexSet<Vec<u8>>,
+    guesses: &mut [usize; PLACES],
+    letters: &[u8],
+) -> Result<usize, AllocError>
+    ensures there { IfOk result (λ place. letters_in known.new.keys (Some place)
+        ≡ Some letters.now) }
+    ensures grown { IsGrown known.old.keys known.new.keys }
+{
+    let at = place_for_text(letters);
+    let guess = guesses[at];
+    if are_at(known, guess, letters) {
+        return Ok(guess);
+    }
+    let place = place_for(alloc, known, letters)?;
+    guesses[at] = place;
+    Ok(place)
+}
+
 /// The place of these letters, if there are any.
 fn place_for_any(
     alloc: Global,
     known: &mut IndexSet<Vec<u8>>,
+    guesses: &mut [usize; PLACES],
     letters: Option<&[u8]>,
 ) -> Result<Option<usize>, AllocError>
     ensures there { IfOk result (λ place. letters_in known.new.keys place
@@ -71,7 +107,7 @@ fn place_for_any(
     ensures grown { IsGrown known.old.keys known.new.keys }
 {
     match letters {
-        Some(letters) => Ok(Some(place_for(alloc, known, letters)?)),
+        Some(letters) => Ok(Some(guessed_place_for(alloc, known, guesses, letters)?)),
         None => Ok(None),
     }
 }
@@ -130,6 +166,7 @@ impl KnownPaths {
         KnownPaths {
             paths: IndexMap::new(alloc),
             letters: IndexSet::new(alloc),
+            guesses: [0; PLACES],
         }
     }
 
@@ -175,7 +212,7 @@ impl KnownPaths {
           letters = option_map (λ letters. letters.now) letters.entry;
         } ∷ []) }
     {
-        let place = place_for_any(alloc, &mut self.letters, letters)?;
+        let place = place_for_any(alloc, &mut self.letters, &mut self.guesses, letters)?;
         match self.paths.insert(Vec::from_slice(alloc, path)?, place) {
             Ok(_) => Ok(()),
             Err(_) => Err(AllocError),

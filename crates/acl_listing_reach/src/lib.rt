@@ -1,5 +1,5 @@
-//! What two listings of real files differ in by reach: of each file, who gains or loses what, if
-//! something counts only for who may search each folder above it.
+//! Changes between two listings of real files by reach: who gains or loses what on each file, if
+//! access counts only for users who may also search each parent folder.
 #![tactic(auto)]
 
 mod answered;
@@ -8,6 +8,7 @@ mod command;
 mod known;
 mod laws;
 mod lines;
+mod misfit;
 mod report;
 
 pub use command::Impact;

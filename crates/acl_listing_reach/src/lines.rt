@@ -8,7 +8,7 @@ ghost use Rattle.acl_listing_reach.specs.LineSteps.{line_there};
 ghost use Rattle.acl_listing_reach.specs.ReachText.{after_by, all_lines, alone_text};
 ghost use Rattle.acl_listing_reach.specs.ReachText.{differ_text, first_line, gone_by, number_at};
 ghost use Rattle.acl_listing_reach.specs.ReachText.{since_text};
-ghost use Rattle.acl_listing_reach.specs.Reporting.{asking_by};
+ghost use Rattle.acl_listing_reach.specs.Asking.{asking_by};
 
 use acl_access::PrintedPath;
 use acl_bridge::bits::mask_for;
@@ -21,11 +21,11 @@ use std::alloc::{AllocError, Global};
 
 /// Who is asked about, and how it is reported.
 #[derive(Clone, Copy)]
-pub(crate) struct Reporting<'t> {
+pub(crate) struct Asking<'t> {
     pub people: &'t People,
     /// Whether each of these people has a line, and not only the first.
     pub each: bool,
-    /// Whether the exit status tells that there is a line.
+    /// Whether the exit status reports that there is a line.
     pub asks: bool,
 }
 
@@ -105,7 +105,7 @@ fn push_first(
     Ok(())
 }
 
-impl<'t> Reporting<'t> {
+impl<'t> Asking<'t> {
     /// Appends the lines of a file that had the one letters and has the other ones.
     fn push_differ(
         &self,

@@ -1,4 +1,4 @@
-//! What is reported of two listings, path by path.
+//! What is reported for two listings, path by path.
 ghost use Rattle.std.specs.Prelude.{◌≡◌, ◌++◌, ℕ, [], IfErr, IfOk, List, OnErr, OnOk, false};
 ghost use Rattle.std.specs.Prelude.{not, slice_get};
 ghost use Rattle.std.specs.Io.KnownBytes.{Appends};
@@ -6,15 +6,15 @@ ghost use Rattle.std.specs.List.{list_any};
 ghost use Rattle.std.specs.Option.{option_map_or};
 ghost use Rattle.acl_cli.specs.Failures.{IsAnswerLack};
 ghost use Rattle.acl_cli.specs.Output.{AppendsFront};
-ghost use Rattle.acl_cli.specs.Telling.{is_empty};
+ghost use Rattle.acl_cli.specs.Reporting.{is_empty};
 ghost use Rattle.acl_listing_reach.specs.Once.{has_path};
 ghost use Rattle.acl_listing_reach.specs.ReachAnswer.{apart_text};
 ghost use Rattle.acl_listing_reach.specs.ReachText.{after_text, gone_text, report_text};
-ghost use Rattle.acl_listing_reach.specs.Reporting.{asking_by};
+ghost use Rattle.acl_listing_reach.specs.Asking.{asking_by};
 
 use crate::known::KnownPaths;
-use crate::lines::Reporting;
-use acl_cli::{ErrorOutput, Failure, Telling, tell_each};
+use crate::lines::Asking;
+use acl_cli::{ErrorOutput, Failure, Reporting, report_each};
 use acl_listing_changes::push_apart;
 use std::alloc::{AllocError, Global};
 use std::io::Write;
@@ -28,42 +28,41 @@ pub(crate) enum Stage {
     Gone(usize),
 }
 
-/// What is left to tell of two listings.
+/// What is left to report of two listings.
 #[derive(Drop)]
 pub(crate) struct Report<'t> {
-    reporting: Reporting<'t>,
+    asking: Asking<'t>,
     before: &'t KnownPaths,
     after: &'t KnownPaths,
     stage: Stage,
 }
 
 impl<'t> Report<'t> {
-    /// Appends what is reported of the path of the listing after at this place.
+    /// Appends what is reported for the path of the listing after at this place.
     fn push_after(&self, alloc: Global, place: usize, out: &mut Vec<u8>) -> Result<(), AllocError>
         ensures { OnOk result (out.new.items ≡ out.old.items ++ option_map_or
-            (after_text (asking_by self.now.reporting) self.now.before.now)
+            (after_text (asking_by self.now.asking) self.now.before.now)
             (slice_get self.now.after.now place) []) }
     {
         match self.after.at(place) {
             Some(at) => {
                 let was = self.before.find(at.path);
-                self.reporting
-                    .push_after(alloc, was, at.letters, at.path, out)
+                self.asking.push_after(alloc, was, at.letters, at.path, out)
             }
             None => Ok(()),
         }
     }
 
-    /// Appends what is reported of the path of the listing before at this place.
+    /// Appends what is reported for the path of the listing before at this place.
     fn push_gone(&self, alloc: Global, place: usize, out: &mut Vec<u8>) -> Result<(), AllocError>
         ensures { OnOk result (out.new.items ≡ out.old.items ++ option_map_or
-            (gone_text (asking_by self.now.reporting) self.now.after.now)
+            (gone_text (asking_by self.now.asking) self.now.after.now)
             (slice_get self.now.before.now place) []) }
     {
         match self.before.at(place) {
             Some(at) => {
                 let there = self.after.has(at.path);
-                self.reporting
+                self.asking
                     .push_gone(alloc, there, at.letters, at.path, out)
             }
             None => Ok(()),
@@ -71,24 +70,24 @@ impl<'t> Report<'t> {
     }
 }
 
-impl<'n, 't> Telling<'n> for Report<'t> {
+impl<'n, 't> Reporting<'n> for Report<'t> {
     ghost use Rattle.std.specs.Prelude.{◌≡◌, ⊤};
     ghost use Rattle.acl_cli.specs.Failures.{out_of_memory};
-    ghost use Rattle.acl_listing_reach.specs.ReportSteps.{BeginsLeft, TellsLeft, left_text};
-    ghost use Rattle.acl_listing_reach.specs.Reporting.{asking_by};
+    ghost use Rattle.acl_listing_reach.specs.ReportSteps.{BeginsLeft, ReportsLeft, left_text};
+    ghost use Rattle.acl_listing_reach.specs.Asking.{asking_by};
 
-    ghost Tells = { λ report. TellsLeft (left_text (asking_by report.reporting) report.before.now
+    ghost Reports = { λ report. ReportsLeft (left_text (asking_by report.asking) report.before.now
         report.after.now report.stage) };
 
-    ghost Begins = { λ report. BeginsLeft (left_text (asking_by report.reporting)
+    ghost Begins = { λ report. BeginsLeft (left_text (asking_by report.asking)
         report.before.now report.after.now report.stage) };
 
-    // How it ends isn't told by what is left.
+    // How it ends isn't reported by what is left.
     ghost Ends = { λ report ending. ⊤ };
 
     ghost Fails = { λ report failure. failure ≡ out_of_memory };
 
-    fn tell_next(
+    fn report_next(
         &mut self,
         alloc: Global,
         out: &mut Vec<u8>,
@@ -156,30 +155,30 @@ pub(crate) fn push_if_apart(
     }
 }
 
-/// Writes what is reported of the paths of both listings, in pieces. Returns whether anything is.
+/// Writes what is reported for the paths of both listings, in pieces. Returns whether anything is.
 /// If it fails, a front of that went out.
-pub(crate) fn tell_report<'n, W: Write, E: Write + Drop>(
+pub(crate) fn report_report<'n, W: Write, E: Write + Drop>(
     alloc: Global,
-    reporting: Reporting<'_>,
+    asking: Asking<'_>,
     before: &KnownPaths,
     after: &KnownPaths,
     out: &mut W,
     err: &mut ErrorOutput<E>,
 ) -> Result<bool, Failure<'n>>
     ensures written { IfOk result (λ some. (text : List ℕ)
-        × (text ≡ report_text (asking_by reporting.entry) before.now after.now)
+        × (text ≡ report_text (asking_by asking.entry) before.now after.now)
         × Appends (W.contents out.old) (W.contents out.new) text
         × (some ≡ not (is_empty text))) }
     ensures cut { OnErr result (AppendsFront (W.contents out.old) (W.contents out.new)
-        (report_text (asking_by reporting.entry) before.now after.now)) }
+        (report_text (asking_by asking.entry) before.now after.now)) }
     ensures beside { err.new ≡ err.old }
     ensures failed { IfErr result IsAnswerLack }
 {
     let mut report = Report {
-        reporting,
+        asking,
         before,
         after,
         stage: Stage::After(0),
     };
-    tell_each(alloc, &mut report, out, err)
+    report_each(alloc, &mut report, out, err)
 }

@@ -1,4 +1,4 @@
--- What is told beside the translation of an access list decides no reading, writing or executing.
+-- What is reported beside the translation of an access list decides no reading, writing or executing.
 use Rattle.std.proofs.Common.{◌≡◌, ◌∙◌, ◌↔◌, ◌^◌, ℕ, Bool, true, false, cond, ◌&&◌, ◌||◌, not, List, [], ◌∷◌, ◌++◌, Option, Some, None, ap, ap₂, find, map, option_map, refl, subst, sym, unwrap_or}
 use Rattle.std.specs.Prelude.{IsTrue}
 use Rattle.std.specs.Option.{option_or}

@@ -1,4 +1,4 @@
--- A file and the same with what is told of it are decided about alike, and `impact` tells nothing.
+-- A file and the same with what is reported for it are decided about alike, and `impact` reports nothing.
 use Rattle.std.proofs.Common.{◌≡◌, ◌∙◌, ◌↔◌, IfOk, ℕ, Bool, true, false, cond, List, [], ◌∷◌, ◌++◌, Some, None, Result, Ok, ap, ap₂, refl, subst, sym}
 use Rattle.acl_names.specs.Bytes.{newline}
 use Rattle.acl_names.specs.Names.{Names}
@@ -18,10 +18,10 @@ use Rattle.acl_listings.specs.declared.lists.Lists.TheVariants.{Nfs4, Posix}
 use Rattle.acl_listings.proofs.ValidLemmas.{HasValidAccess, file_valid}
 use Rattle.acl_reports.specs.Files.{deciding_list, file_of}
 use Rattle.acl_people.specs.Host.{Host, names_of_host}
-use Rattle.acl_listing_changes.specs.Impacting.{ImpactAsking, TellsChange}
-use Rattle.acl_listing_changes.specs.WrittenChanges.{TellsWritten, changed_text}
-use Rattle.acl_listing_changes.proofs.AlikeLemmas.{alike_itself, is_unchanged, nobody, tells_nothing, unchanged}
-use Rattle.acl_listing_translation.specs.TranslateLaws.{IsTold, TellsNothing, TellsNothingOf, with_told}
+use Rattle.acl_listing_changes.specs.Impacting.{ImpactAsking, ReportsChange}
+use Rattle.acl_listing_changes.specs.WrittenChanges.{ReportsWritten, changed_text}
+use Rattle.acl_listing_changes.proofs.AlikeLemmas.{alike_itself, is_unchanged, nobody, reports_nothing, unchanged}
+use Rattle.acl_listing_translation.specs.TranslateLaws.{IsReported, ReportsNothing, ReportsNothingOf, with_reported}
 use Rattle.acl_listing_translation.specs.Translated.{aces_of}
 use Rattle.acl_listing_translation.specs.declared.form.AceForm.{AceForm}
 use Rattle.acl_listing_translation.proofs.SameLemmas.{decides_each_bit}
@@ -54,11 +54,11 @@ lists_alike attributes owner group (Posix access default) valid requester = reco
 lists_alike attributes owner group (Nfs4 acl) valid requester = alike_itself (deciding owner group (Nfs4 acl)) requester
 
 module _ (names : Names) (attributes : Bool) (text : List ℕ) (file : FileValue) (reads : file_by names text ≡ Ok file) where
-  pub told_alike : IsAlikeToAll (file_of file) (file_of (with_told attributes file))
-  told_alike = lists_alike attributes file.owner file.group file.lists (file_valid names text file reads)
+  pub reported_alike : IsAlikeToAll (file_of file) (file_of (with_reported attributes file))
+  reported_alike = lists_alike attributes file.owner file.group file.lists (file_valid names text file reads)
 
-  pub told_nothing : TellsNothing (file_of file) (file_of (with_told attributes file))
-  told_nothing concern path text = tells_nothing (file_of file) (file_of (with_told attributes file)) path told_alike concern text
+  pub reported_nothing : ReportsNothing (file_of file) (file_of (with_reported attributes file))
+  reported_nothing concern path text = reports_nothing (file_of file) (file_of (with_reported attributes file)) path reported_alike concern text
 
 -- ---- what is written otherwise
 
@@ -67,7 +67,7 @@ module _ (attributes : Bool) (path : List ℕ) (owner group : ℕ) (flags : File
   abbrev with_lists : Lists → FileValue
   with_lists lists = record { path = path; owner = owner; group = group; flags = flags; lists = lists }
 
-  unwritten : (lists : Lists) → TellsWritten false (with_lists lists) (with_lists (Nfs4 (aces_of attributes lists))) []
+  unwritten : (lists : Lists) → ReportsWritten false (with_lists lists) (with_lists (Nfs4 (aces_of attributes lists))) []
   unwritten (Posix access None) = (
     record { owner = false; group = false; flags = false; access = true; default = false },
     record {
@@ -94,19 +94,19 @@ module _ (attributes : Bool) (path : List ℕ) (owner group : ℕ) (flags : File
 
 -- ---- blocks
 
--- what is told of two files that are decided about alike, unless what is written otherwise is asked
+-- what is reported for two files that are decided about alike, unless what is written otherwise is asked
 module _ (asking : ImpactAsking) (unasked : asking.written ≡ false) (before after : FileValue) (alike : IsAlikeToAll (file_of before) (file_of after))
-    (nothing : TellsWritten false before after []) where
-  change_nothing : (told : List ℕ) → TellsChange asking before after told ↔ (told ≡ [])
-  change_nothing told = (
-    λ tells. tells.text_is
-        ∙ ap₂ (λ (a b : List ℕ). a ++ b) ((tells_nothing (file_of before) (file_of after) (printed_path after.path) alike asking.concern tells.impact).0 tells.impact_is)
-        (tells.written_is.2 ∙ ap (λ asked. changed_text asked tells.written_is.0 (printed_path after.path)) unasked),
-    λ none. subst (TellsChange asking before after) (sym none) (record {
+    (nothing : ReportsWritten false before after []) where
+  change_nothing : (reported : List ℕ) → ReportsChange asking before after reported ↔ (reported ≡ [])
+  change_nothing reported = (
+    λ reports. reports.text_is
+        ∙ ap₂ (λ (a b : List ℕ). a ++ b) ((reports_nothing (file_of before) (file_of after) (printed_path after.path) alike asking.concern reports.impact).0 reports.impact_is)
+        (reports.written_is.2 ∙ ap (λ asked. changed_text asked reports.written_is.0 (printed_path after.path)) unasked),
+    λ none. subst (ReportsChange asking before after) (sym none) (record {
       impact = [];
       impact_is = nobody (file_of before) (file_of after) (printed_path after.path) alike asking.concern;
       written = [];
-      written_is = subst (λ (asked : Bool). TellsWritten asked before after []) (sym unasked) nothing;
+      written_is = subst (λ (asked : Bool). ReportsWritten asked before after []) (sym unasked) nothing;
       text_is = refl;
     }),
   )
@@ -122,21 +122,21 @@ module _ (P : FileValue → FileValue → Type 0) (before after : FileValue) whe
     λ holds. subst (λ (read : Result FileValue BlockFault). OfBoth read second) (sym one) (subst (λ (read : Result FileValue BlockFault). OfBoth (Ok before) read) (sym two) holds),
   )
 
-blocks_nothing : (names : Names) (attributes : Bool) (old text : List ℕ) (file : FileValue) → file_by names old ≡ Ok file → file_by names text ≡ Ok (with_told attributes file)
-    → TellsNothingOf names old text
-blocks_nothing names attributes old text file reads again asking same unasked told said =
-    let after = with_told attributes file in
+blocks_nothing : (names : Names) (attributes : Bool) (old text : List ℕ) (file : FileValue) → file_by names old ≡ Ok file → file_by names text ≡ Ok (with_reported attributes file)
+    → ReportsNothingOf names old text
+blocks_nothing names attributes old text file reads again asking same unasked reported said =
+    let after = with_reported attributes file in
     let first : file_by asking.names old ≡ Ok file = ap (λ names. file_by names old) same ∙ reads in
     let second : file_by asking.names text ≡ Ok after = ap (λ names. file_by names text) same ∙ again in
-    let both = of_both (λ before after. TellsChange asking before after told × (said ≡ [])) file after (file_by asking.names old) (file_by asking.names text) first second in
-    let nothing = change_nothing asking unasked file after (told_alike names attributes old file reads)
-    (unwritten attributes file.path file.owner file.group file.flags file.lists) told in (
-      λ tells. let here = both.0 tells in (nothing.0 here.0, here.1),
+    let both = of_both (λ before after. ReportsChange asking before after reported × (said ≡ [])) file after (file_by asking.names old) (file_by asking.names text) first second in
+    let nothing = change_nothing asking unasked file after (reported_alike names attributes old file reads)
+    (unwritten attributes file.path file.owner file.group file.flags file.lists) reported in (
+      λ reports. let here = both.0 reports in (nothing.0 here.0, here.1),
       λ none. both.1 (nothing.1 none.0, none.1),
     )
 
-pub told_block_nothing : (host : Host) (form : AceForm) (attributes : Bool) (text told : List ℕ) (file : FileValue) → IsTold host form attributes text file told
-    → (block : List ℕ) × (told ≡ block ++ newline ∷ newline ∷ []) × TellsNothingOf (names_of_host host) text block
-told_block_nothing host form attributes text told file is =
-    let again = translated_again host form attributes text told file is in
+pub reported_block_nothing : (host : Host) (form : AceForm) (attributes : Bool) (text reported : List ℕ) (file : FileValue) → IsReported host form attributes text file reported
+    → (block : List ℕ) × (reported ≡ block ++ newline ∷ newline ∷ []) × ReportsNothingOf (names_of_host host) text block
+reported_block_nothing host form attributes text reported file is =
+    let again = translated_again host form attributes text reported file is in
     (again.0, again.1, blocks_nothing (names_of_host host) attributes text again.0 file is.file_is again.2)

@@ -28,7 +28,8 @@ form_of (Some text) = if bytes_eq text (codes "nfs4") then Ok Nfs4
 abbrev pub form_in : List Row → Result AceForm Malformed
 form_in = of_option (codes "form") form_of
 
--- the files say who there is, the words how it is reported, and the answer is what follows from it
+-- the files give users and groups, the words the form of the answer, and the answer follows from
+-- both
 pub record TranslateAnswers (Is : Text → Names → (List (List ℕ) → List ℕ → Part)
     → Option (List ℕ) → Answer → Type 0) (bytes_of : Text → Option (List ℕ))
     (input : Option (List ℕ)) (rows : List Row) (answer : Answer) : Type 0 where
@@ -44,7 +45,7 @@ pub record TranslateAnswers (Is : Text → Names → (List (List ℕ) → List �
         pairs = flag_in (codes "print0") rows;
       })) (bytes_named bytes_of input (listing_in rows)) answer
 
--- the form is malformed; or it isn't, and the files don't say who there is, or the listing fails
+-- the form is malformed; or it isn't, and the accounts can't be read, or the listing fails
 abbrev pub FailsForTranslate : (Text → Option (List ℕ)) → List Row → Failure → Type 0
 FailsForTranslate bytes_of rows failure = Explains (form_in rows) failure
     ⊎ (IsOk (form_in rows)

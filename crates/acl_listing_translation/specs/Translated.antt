@@ -1,4 +1,4 @@
--- What `translate` tells of a block of a listing: its file as an NFSv4 one.
+-- What `translate` prints for a block of a listing: its file with an NFSv4 list.
 use Rattle.std.specs.Prelude.{ℕ, Bool, true, false, ◌+◌, nat_le, List, [], ◌∷◌, ◌++◌, length}
 use Rattle.std.specs.Prelude.{Option, Some, None, Result, Ok, Err, if◌then◌else◌}
 use Rattle.std.specs.List.{flat_map}
@@ -30,8 +30,8 @@ use Rattle.acl_listing_translation.specs.declared.form.AceForm.TheVariants as fo
 use Rattle.acl_listing_translation.specs.declared.lists.TheConstants.{ATTRIBUTES}
 use Rattle.acl_listing_translation.specs.declared.lists.TheConstants.{OWNER_ATTRIBUTES}
 
--- by which names blocks are read, in which form entries are reported, whether with what servers
--- check besides, and whether as pairs of a list and a path
+-- the names that blocks have, the form in which entries are printed, whether entries for what
+-- servers also check are appended, and whether pairs of a list and a path are printed
 pub record Translating : Type 0 where
   pub names : Names
   pub form : AceForm
@@ -40,7 +40,7 @@ pub record Translating : Type 0 where
 
 -- ---- the list
 
--- what servers check besides: `A::OWNER@:tTnNcCoy` and `A::EVERYONE@:tncy`
+-- what servers also check: `A::OWNER@:tTnNcCoy` and `A::EVERYONE@:tncy`
 abbrev pub attributes_if : Bool → List Nfsace4
 attributes_if false = []
 attributes_if true = ace_of Allow 0 Owner OWNER_ATTRIBUTES ∷ ace_of Allow 0 Everyone ATTRIBUTES ∷ []
@@ -50,7 +50,7 @@ abbrev pub below_of : Option (List EntryValue) → List Nfsace4
 below_of None = []
 below_of (Some default) = default_translation (linux_list default)
 
--- A file's NFSv4 list: its own; or the translation of its POSIX lists, as Linux looks at them.
+-- A file's NFSv4 list: its own; or the translation of its POSIX lists, as Linux evaluates them.
 abbrev pub aces_of : Bool → Lists → List Nfsace4
 aces_of attributes (Posix access default) =
     translation (linux_list access) ++ (below_of default ++ attributes_if attributes)
@@ -71,27 +71,27 @@ abbrev pub if_short : List ℕ → Part
 if_short block = if nat_le (length block) (MAX_BLOCK + 1) then Ok (block ++ newline ∷ [])
     else Err TooLong
 
--- entries with a comma between each two
+-- entries with commas between them
 abbrev pub spec_in : AceForm → List Nfsace4 → List ℕ
 spec_in form [] = []
 spec_in form (first ∷ more) = entry_in form first
     ++ flat_map (λ ace. comma ∷ entry_in form ace) more
 
--- the list and the path without escapes, each with a byte of 0 behind it
+-- the list and the path without escapes, each with a zero byte after it
 abbrev pub pair_in : AceForm → List ℕ → List Nfsace4 → List ℕ
 pair_in form path aces = spec_in form aces ++ (0 ∷ (unquoted path ++ 0 ∷ []))
 
-abbrev pub told_as : Bool → AceForm → List ℕ → List ℕ → List Nfsace4 → Part
-told_as true form text path aces = Ok (pair_in form path aces)
-told_as false form text path aces = if_short (nfs4_block (entry_in form) text aces)
+abbrev pub reported_as : Bool → AceForm → List ℕ → List ℕ → List Nfsace4 → Part
+reported_as true form text path aces = Ok (pair_in form path aces)
+reported_as false form text path aces = if_short (nfs4_block (entry_in form) text aces)
 
--- what `translate` tells of a block, by its text
+-- what `translate` prints for a block, by its text
 abbrev pub translated : Translating → List ℕ → Part
 translated asking text = do
   file ← file_by asking.names text
   aces ← as_list (aces_of asking.attributes file.lists)
-  told_as asking.pairs asking.form text file.path aces
+  reported_as asking.pairs asking.form text file.path aces
 
--- whatever stands before it
+-- whatever comes before it
 abbrev pub translate_part : Translating → List (List ℕ) → List ℕ → Part
 translate_part asking earlier text = translated asking text

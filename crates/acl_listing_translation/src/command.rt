@@ -1,7 +1,7 @@
 //! The command `translate`.
 
 use crate::form::form_field;
-use crate::teller::TranslateTeller;
+use crate::reporter::TranslateReporter;
 use acl_cli::fields::flag_field;
 use acl_cli::{
     Command as CliCommand, CommandLine, Ending, ErrorOutput, Failure, Given, Line, OpenFiles, Word,
@@ -9,30 +9,30 @@ use acl_cli::{
 use acl_people::options::{ACCOUNTS, DOMAIN};
 use acl_people::read_host;
 use acl_reports::options::LISTING;
-use acl_reports::{listing_field, tell_named};
+use acl_reports::{listing_field, report_named};
 use clap::ArgMatches;
 use std::alloc::Global;
 use std::io::{Read, Write};
 
-/// What is reported, and what the exit statuses are.
+/// The end of help: the answer, and the exit statuses.
 const ANSWERS: &str = "For example:
   getfacl -Rn /srv/share | aclctl translate -
 
-The listing again, with an NFSv4 list for each file: the translation of its
-POSIX list and that of a default list, with FILE_INHERIT, DIRECTORY_INHERIT and
-INHERIT_ONLY. An NFSv4 list stays as it is. ids are decimal. What isn't
-answered is said on standard error: aclctl: LISTING:LINE: WORD: TEXT.
+Prints the listing with an NFSv4 list for each file: the translation of its
+POSIX list, and that of a default list, with FILE_INHERIT, DIRECTORY_INHERIT and
+INHERIT_ONLY. An NFSv4 list stays as it is. Ids are decimal. Blocks that can't
+be evaluated go to standard error: aclctl: LISTING:LINE: WORD: TEXT.
 
-Exit status: 0 if every file was answered; 1 if a field is malformed or a file
+Exit status: 0 if every file was translated; 1 if a field is malformed or a file
 can't be read; 2 if the words are wrong; 3 if memory runs out, the listing
-fails while it is read, or the answer can't be written; 4 if there are files
-that weren't answered, or none at all.";
+fails while it is read, or the answer can't be written; 4 if some files, or all,
+can't be evaluated, or the listing has none.";
 
 /// `translate`: a listing with an NFSv4 list for each file.
 #[derive(Clone, Copy)]
 pub struct Translate;
 
-/// What stands in the line, in the order of help.
+/// The words of the line, in the order of help.
 const WORDS: [Word<'static>; 6] = [
     ACCOUNTS,
     DOMAIN,
@@ -40,19 +40,19 @@ const WORDS: [Word<'static>; 6] = [
         given: Given::Option,
         name: "form",
         value: "FORM",
-        help: "How entries are written: nfs4, as nfs4_getfacl prints them, or freebsd; else nfs4",
+        help: "The form of the entries: nfs4, as nfs4_getfacl prints them (default), or freebsd",
     },
     Word {
         given: Given::Flag,
         name: "attributes",
         value: "",
-        help: "Adds what servers check besides: A::OWNER@:tTnNcCoy and A::EVERYONE@:tncy",
+        help: "Appends what servers also check: A::OWNER@:tTnNcCoy and A::EVERYONE@:tncy",
     },
     Word {
         given: Given::Flag,
         name: "print0",
         value: "",
-        help: "Tells entries between commas and the path, with a byte of 0 behind each",
+        help: "Prints for each file its entries, with commas, and its path, a zero byte after each",
     },
     LISTING,
 ];
@@ -72,7 +72,7 @@ impl CommandLine for Translate {
     fn line() -> Line<'static> {
         Line {
             name: "translate",
-            about: "Tells each file of a listing, as getfacl -R prints it, as an NFSv4 one.",
+            about: "Prints a listing of getfacl -R with an NFSv4 list for each file.",
             after_help: ANSWERS,
             words: &WORDS,
         }
@@ -102,18 +102,18 @@ impl CliCommand for Translate {
     ) -> Result<Ending, Failure<'a>> {
         let form = form_field(matches)?;
         let host = read_host(alloc, files, matches)?;
-        let teller = TranslateTeller {
+        let reporter = TranslateReporter {
             host: &host,
             form,
             attributes: flag_field(matches, "attributes"),
             pairs: flag_field(matches, "print0"),
         };
-        tell_named(
+        report_named(
             alloc,
             files,
             listing_field(matches),
             &host,
-            teller,
+            reporter,
             input,
             out,
             err,

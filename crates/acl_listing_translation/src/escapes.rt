@@ -1,4 +1,4 @@
-//! Paths without the escapes of getfacl.
+//! Removing the escapes of getfacl from paths.
 ghost use Rattle.std.specs.Prelude.{◌≡◌, ◌++◌, OnOk};
 ghost use Rattle.acl_accounts.specs.Names.{unquoted};
 

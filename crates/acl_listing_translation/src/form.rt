@@ -1,4 +1,4 @@
-//! The form in which entries are reported.
+//! The form in which entries are printed.
 ghost use Rattle.std.specs.Prelude.{◌≡◌, Err, IfErr, IfOk, Ok, option_map};
 ghost use Rattle.clap.specs.Words.{found_of, rows_of};
 ghost use Rattle.acl_listing_translation.specs.TranslateMeaning.{form_in, form_of};
@@ -16,7 +16,7 @@ pub(crate) enum AceForm {
     Freebsd,
 }
 
-/// The form that the words name; if they name none, it is that of nfs4.
+/// The form that the words name; without one, that of nfs4. Fails if no form has the name.
 pub(crate) fn form_field<'a>(matches: &ArgMatches<'a>) -> Result<AceForm, Malformed<'a>>
     ensures read { IfOk result (λ form. form_in (rows_of (found_of matches.now)) ≡ Ok form) }
     ensures refused { IfErr result (λ malformed. form_in (rows_of (found_of matches.now))

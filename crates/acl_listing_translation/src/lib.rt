@@ -1,4 +1,4 @@
-//! `translate`: the files of a listing of real files as NFSv4 ones.
+//! `translate`: the files of a listing with NFSv4 lists.
 #![tactic(auto)]
 
 mod command;
@@ -7,7 +7,7 @@ mod form;
 mod laws;
 mod lists;
 mod printing;
-mod teller;
+mod reporter;
 
 pub use command::Translate;
 pub use laws::{

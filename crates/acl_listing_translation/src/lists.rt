@@ -14,14 +14,14 @@ use acl_posix::{Acl, AclFault};
 use bitflags::Flags as FlagSet;
 use std::alloc::{AllocError, Global};
 
-/// What servers check of an owner besides: `tTnNcCoy`.
+/// What servers also check for an owner: `tTnNcCoy`.
 const OWNER_ATTRIBUTES: u32 = 0x1E_0198;
 
-/// And of everybody: `tncy`.
+/// And for everybody: `tncy`.
 const ATTRIBUTES: u32 = 0x12_0088;
 
-/// The NFSv4 list of a file with these lists: its own, or the translation of its POSIX lists. It is
-/// refused if it would have more than 128 entries.
+/// The NFSv4 list of a file with these lists: its own, or the translation of its POSIX lists. Fails
+/// if it would have more than 128 entries, and if memory runs out.
 pub(crate) fn nfs4_list(alloc: Global, attributes: bool, lists: Lists) -> Result<Acl4, FileFault>
     ensures { ReadsAs (as_list (aces_of attributes lists)) result }
 {
@@ -31,7 +31,7 @@ pub(crate) fn nfs4_list(alloc: Global, attributes: bool, lists: Lists) -> Result
     }
 }
 
-/// An NFSv4 list as it is.
+/// An NFSv4 list, unchanged.
 fn own(acl: Acl4) -> Result<Acl4, FileFault>
     ensures { ReadsAs (as_list acl) result }
 {
@@ -60,7 +60,7 @@ fn translated(
     Ok(acl)
 }
 
-/// The translation of a default list, if there is one.
+/// The translation of a default list; empty without one.
 fn below_of(alloc: Global, default: Option<Acl>) -> Result<Acl4, AllocError>
     ensures { IfOk result (λ acl. acl ≡ below_of default) }
 {
@@ -70,7 +70,7 @@ fn below_of(alloc: Global, default: Option<Acl>) -> Result<Acl4, AllocError>
     }
 }
 
-/// What servers check besides, if it is asked for.
+/// What servers also check, if `attributes` is set; else empty.
 fn attributes_if(alloc: Global, attributes: bool) -> Result<Acl4, AllocError>
     ensures { IfOk result (λ acl. acl ≡ attributes_if attributes) }
 {
@@ -82,20 +82,20 @@ fn attributes_if(alloc: Global, attributes: bool) -> Result<Acl4, AllocError>
     Ok(acl)
 }
 
-/// Appends an entry that allows what these bits stand for.
+/// Appends an entry that allows these bits.
 fn push_allowed(acl: &mut Acl4, who: &Who, bits: u32) -> Result<(), AllocError>
     ensures { OnOk result (acl.new ≡ acl.old ++ ace_of Allow 0 who.now bits ∷ []) }
 {
     let mask = Mask::from_bits_retain(bits);
     let ace = Ace::new(AceType::Allow, Flags::empty(), *who, mask);
-    // Only memory can lack: there is room, and the entry has an effect.
+    // Only memory can be lacking: there is room, and the entry has an effect.
     match acl.push(ace) {
         Ok(()) => Ok(()),
         Err(_) => Err(AllocError),
     }
 }
 
-/// Appends entries of another list, for which there is room.
+/// Appends the entries of another list. There must be room for them.
 fn append(acl: &mut Acl4, more: &[Ace]) -> Result<(), AllocError>
     ensures { OnOk result (acl.new ≡ acl.old ++ more.now) }
 {

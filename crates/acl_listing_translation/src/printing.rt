@@ -1,11 +1,11 @@
-//! How a file's NFSv4 list is reported.
+//! Printing a file with its NFSv4 list.
 ghost use Rattle.std.specs.Prelude.{◌≡◌, ◌++◌, ◌∷◌, [], OnOk};
 ghost use Rattle.std.specs.List.{flat_map};
 ghost use Rattle.acl_names.specs.Bytes.{comma, newline};
 ghost use Rattle.acl_listings.specs.Guess.{begins};
 ghost use Rattle.acl_listings.specs.Nfs4Block.{aces_lines, ended_line, flags_line, front_of};
 ghost use Rattle.acl_listings.specs.Nfs4Block.{nfs4_block};
-ghost use Rattle.acl_reports.specs.Telling.{IsPart};
+ghost use Rattle.acl_reports.specs.Reporting.{IsPart};
 ghost use Rattle.acl_listing_translation.specs.Translated.{entry_in, if_short, pair_in, spec_in};
 
 use crate::escapes::push_unescaped;
@@ -60,7 +60,7 @@ fn push_first_line(text: &[u8], out: &mut Vec<u8>) -> Result<(), AllocError>
     push_newline(out)
 }
 
-/// Appends the line of the flags, if there is one in front of the list.
+/// Appends the line of the flags, if the list begins with one.
 fn push_flags_line(list: &[u8], out: &mut Vec<u8>) -> Result<(), AllocError>
     ensures { OnOk result (out.new.items ≡ out.old.items ++ flags_line list.now) }
 {
@@ -77,7 +77,7 @@ fn begins(word: &[u8], text: &[u8]) -> bool
     text.starts_with(word)
 }
 
-/// Appends the lines at the front of a block, as they stand.
+/// Appends the lines of a block's header, unchanged.
 fn push_front(text: &[u8], out: &mut Vec<u8>) -> Result<(), AllocError>
     ensures { OnOk result (out.new.items ≡ out.old.items ++ front_of text.now) }
 {
@@ -102,8 +102,8 @@ fn push_front_and_lines(
     push_lines(form, aces, out)
 }
 
-/// Appends a block of the same file, with these entries, and an empty line. If the block would be
-/// too long, nothing is appended.
+/// Appends the block of the same file with these entries, and an empty line. Appends nothing if the
+/// block would be too long.
 pub(crate) fn push_block(
     form: AceForm,
     text: &[u8],
@@ -141,7 +141,7 @@ fn push_further_entry(form: AceForm, ace: &Ace, out: &mut Vec<u8>) -> Result<(),
     push_entry(form, ace, out)
 }
 
-/// Appends the entries with a comma between each two.
+/// Appends the entries with commas between them.
 fn push_spec(form: AceForm, aces: &[Ace], out: &mut Vec<u8>) -> Result<(), AllocError>
     ensures { OnOk result (out.new.items ≡ out.old.items ++ spec_in form aces.now) }
 {
@@ -154,7 +154,7 @@ fn push_spec(form: AceForm, aces: &[Ace], out: &mut Vec<u8>) -> Result<(), Alloc
     }
 }
 
-/// Appends the entries and the path without escapes, with a byte of 0 behind each.
+/// Appends the entries, and the path without escapes, each with a zero byte after it.
 pub(crate) fn push_pair(
     form: AceForm,
     path: &[u8],

@@ -81,9 +81,9 @@ taken_next (y ∷ ys) (suc n) x rest is =
 pieces-line : (line : List ℕ) → LacksNewline line → pieces line ≡ line_pieces line
 pieces-line line lacks = ap (flat_map line_pieces) (slice_split_none (λ x. x == newline) line lacks) ∙ append-nil (line_pieces line)
 
-pub told_ok : {A F G : Type 0} (becomes : F → G) (r : Result A F) → is_ok (map_fault becomes r) ≡ is_ok r
-told_ok becomes (Ok value) = refl
-told_ok becomes (Err fault) = refl
+pub reported_ok : {A F G : Type 0} (becomes : F → G) (r : Result A F) → is_ok (map_fault becomes r) ≡ is_ok r
+reported_ok becomes (Ok value) = refl
+reported_ok becomes (Err fault) = refl
 
 -- what is wrong with the first of two texts is wrong with both
 and_more : (a b a' b' : Bool) → (a && b) ≡ false → (b ≡ false → b' ≡ false) → ((a && a') && b') ≡ false

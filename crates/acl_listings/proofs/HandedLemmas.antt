@@ -1,4 +1,4 @@
--- What is handed out of a block tells the same as the block.
+-- What is handed out of a block reports the same as the block.
 use Rattle.std.proofs.Common.{◌≡◌, ℕ, ◌+◌, ◌<◌, cond, List, length, take, Some, None, Result, Ok, option_and_then, ap, sym, ◌∙◌, inl, inr, arith, length-take}
 use Rattle.std.proofs.lemmas.Bool.{cases_lt, lt-leb}
 use Rattle.std.proofs.lemmas.List.{take_all}

@@ -287,7 +287,7 @@ module _ (names : Names) (numbers : ReadNumbers names) where
       (form_again list first rest (All-head EntryHasId first more have) (All-head (λ (e : EntryValue). IsPermissions e.perms) first more is.permissions) lines)
       ∙ posix_again list access is have default printable lines
 
--- no line of them tells of flags
+-- no line of them reports for flags
 no_flags_line : (tag : Tag) (text : List ℕ) → after_prefix (codes "# flags: ") (word_text tag ++ colon ∷ text) ≡ None
 no_flags_line UserObj text = refl
 no_flags_line (User uid) text = refl

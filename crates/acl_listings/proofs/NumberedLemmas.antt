@@ -1,17 +1,20 @@
 -- Files that are printed with their ids in decimal are read again, whoever there is.
-use Rattle.std.proofs.Common.{◌≡◌, ◌∙◌, ℕ, ◌+◌, ◌*◌, ◌<◌, ◌≤◌, ◌==◌, Bool, true, false, cond, not, List, [], ◌∷◌, ◌++◌, Option, Some, None, Result, Ok, Err, All, ap, ap₂, append_assoc, arith, bit_and, codes, decimal, filter, length, length-append, map, refl, sym, le-leb}
+use Rattle.std.proofs.Common.{◌≡◌, ◌∙◌, ℕ, ◌+◌, ◌*◌, ◌<◌, ◌≤◌, ◌==◌, Bool, true, false, cond, not, List, [], ◌∷◌, ◌++◌, Option, Some, None, Result, Ok, Err, All, ap, ap₂, append_assoc, arith, bit_and, codes, decimal, filter, length, length-append, map, option_and_then, refl, sym, le-leb}
 use Rattle.std.proofs.lemmas.Fmt.{length-decimal-le}
 use Rattle.std.proofs.lemmas.Grind.{flat_map-append}
 use Rattle.std.proofs.lemmas.List.Elements.{All-cons, All-head, All-nil, All-tail}
 use Rattle.acl_names.specs.Bytes.{colon, newline}
 use Rattle.acl_names.specs.Letters.{letters_text}
-use Rattle.acl_names.specs.Names.{Names}
+use Rattle.acl_names.specs.Ids.{id_of_written, written_id}
+use Rattle.acl_names.specs.Names.{Names, resolved}
 use Rattle.acl_names.specs.ReadList.{at_most_read}
 use Rattle.acl_names.specs.Steps.{◌>>=◌, or_fault}
+use Rattle.acl_names.specs.declared.directory.resolve.NameFault.TheVariants.{Malformed, Unknown}
 use Rattle.acl_names.specs.declared.limits.TheConstants.{MAX_ID}
 use Rattle.acl_names.specs.declared.text.letters.Letter.{Letter}
 use Rattle.acl_names.proofs.DecimalIds.{decimal_field}
 use Rattle.acl_names.proofs.Fields.{field_plain}
+use Rattle.acl_names.proofs.IdTexts.{written_decimal}
 use Rattle.acl_names.proofs.PlainLines.{plain_lacks_newline}
 use Rattle.acl_posix.specs.Canonical.{IsAcl}
 use Rattle.acl_posix.specs.Entry.{EntryValue}
@@ -29,7 +32,7 @@ use Rattle.acl_nfs4.specs.declared.ace.AceType.{AceType}
 use Rattle.acl_nfs4.specs.declared.ace.AceType.TheVariants.{Allow, Deny, Audit, Alarm}
 use Rattle.acl_nfs4.specs.declared.who.Who.{Who}
 use Rattle.acl_nfs4.specs.declared.who.Who.TheVariants as who
-use Rattle.acl_listings.specs.Block.{FileValue, file_by, owners_of, within_limit}
+use Rattle.acl_listings.specs.Block.{FileValue, file_by, owners_of, path_of, within_limit}
 use Rattle.acl_listings.specs.BlockLists.{lists_by}
 use Rattle.acl_listings.specs.Extent.{HasFullLines, newlines_in}
 use Rattle.acl_listings.specs.FileFlags.{flags_by, no_flags}
@@ -126,6 +129,7 @@ module _ (names : Names) (numbers : ReadNumbers names) where
     pub cut : file_text file ≡ block ++ newline ∷ newline ∷ []
     pub full : HasFullLines block
     pub says : file_by names block ≡ said_of file
+    pub path : path_of block ≡ Some file.path
 
   number_line : (word : List ℕ) (id : ℕ) → 0 < length word → LacksNewline word → id ≤ MAX_ID → IsOneLine (word ++ decimal id)
   number_line word id some lacks small = word_line word (decimal id) some lacks (plain_lacks_newline (decimal id) (field_plain (decimal id) (decimal_field id small).0))
@@ -184,11 +188,13 @@ module _ (names : Names) (numbers : ReadNumbers names) where
         (All-cons IsOneLine owner_line (group_line ∷ list_lines file.lists) owner_is
         (All-cons IsOneLine group_line (list_lines file.lists) group_is (each_of_lists file.lists is.lists)))
 
-    within : within_limit body ≡ Some body
-    within =
+    short : length body ≤ MAX_BLOCK
+    short =
         let two : length (newline ∷ newline ∷ []) ≡ 2 = refl in
-        let short : length body ≤ MAX_BLOCK = omega (arith, is.short, ap length body_cut, length-append body (newline ∷ newline ∷ []), two) in
-        ap (λ b. cond b (Some body) None) (le-leb (length body) MAX_BLOCK short)
+        omega (arith, is.short, ap length body_cut, length-append body (newline ∷ newline ∷ []), two)
+
+    within : within_limit body ≡ Some body
+    within = ap (λ b. cond b (Some body) None) (le-leb (length body) MAX_BLOCK short)
 
     abbrev header : Header
     header = record { path = file.path; owner = decimal file.owner; group = decimal file.group; list = joined (list_lines file.lists) }
@@ -205,22 +211,54 @@ module _ (names : Names) (numbers : ReadNumbers names) where
         ∙ ap₂ (λ o g. owners_of o g >>= from_ids names header) (numbers.uids file.owner is.owner) (numbers.gids file.group is.group)
         ∙ lists_again file is.flags file.lists refl is.lists
 
-    block_of_file : IsBlockOf file
-    block_of_file = record { block = body; cut = body_cut; full = full-joined file_line body_lines each_is; says = body_says }
+    body_path : path_of body ≡ Some file.path
+    body_path =
+        let few : length file_line ≤ MAX_BLOCK = omega (arith, short, length-append file_line (newline ∷ joined body_lines)) in
+        ap (λ line. option_and_then path_in (within_limit line)) (first-of file_line (joined body_lines) file_is.lacks)
+        ∙ ap (λ b. option_and_then path_in (cond b (Some file_line) None)) (le-leb (length file_line) MAX_BLOCK few)
+        ∙ path_again file.path is.path
 
-  pub numbered_again : (number : ℕ) (files : List FileValue) → All IsPrintable files
-      → map (λ block. file_by names block.text) (blocks_from number (files_text files)) ≡ map said_of files
-  numbered_again number [] each = refl
-  numbered_again number (file ∷ files) each =
+    block_of_file : IsBlockOf file
+    block_of_file = record { block = body; cut = body_cut; full = full-joined file_line body_lines each_is; says = body_says; path = body_path }
+
+  -- what is read of each block, if it is so of a file's
+  each_again : {A : Type 0} (read : List ℕ → A) (of_file : FileValue → A) → ((file : FileValue) (is : IsBlockOf file) → read is.block ≡ of_file file)
+      → (number : ℕ) (files : List FileValue) → All IsPrintable files → map (λ block. read block.text) (blocks_from number (files_text files)) ≡ map of_file files
+  each_again read of_file says number [] each = refl
+  each_again read of_file says number (file ∷ files) each =
       let is = block_of_file file (All-head IsPrintable file files each) in
       let rest = files_text files in
       let next = number + newlines_in is.block + 1 + 1 in
-      ap (λ text. map (λ block. file_by names block.text) (blocks_from number text))
+      ap (λ text. map (λ block. read block.text) (blocks_from number text))
       (ap (λ text. text ++ rest) is.cut ∙ append_assoc is.block (newline ∷ newline ∷ []) rest)
-      ∙ ap (map (λ block. file_by names block.text)) (blocks-first number is.block is.full (newline ∷ newline ∷ rest) (refl, refl))
-      ∙ ap (λ blocks. file_by names is.block ∷ map (λ block. file_by names block.text) blocks)
+      ∙ ap (map (λ block. read block.text)) (blocks-first number is.block is.full (newline ∷ newline ∷ rest) (refl, refl))
+      ∙ ap (λ blocks. read is.block ∷ map (λ block. read block.text) blocks)
       (blocks-empty_line (number + newlines_in is.block) (newline ∷ rest) ∙ blocks-empty_line (number + newlines_in is.block + 1) rest)
-      ∙ ap₂ (λ (read : Result FileValue BlockFault) more. read ∷ more) is.says (numbered_again next files (All-tail IsPrintable file files each))
+      ∙ ap₂ (λ first more. first ∷ more) (says file is) (each_again read of_file says next files (All-tail IsPrintable file files each))
+
+  pub numbered_again : (number : ℕ) (files : List FileValue) → All IsPrintable files
+      → map (λ block. file_by names block.text) (blocks_from number (files_text files)) ≡ map said_of files
+  numbered_again = each_again (file_by names) said_of (λ file is. is.says)
+
+  each_path : (number : ℕ) (files : List FileValue) → All IsPrintable files
+      → map (λ block. path_of block.text) (blocks_from number (files_text files)) ≡ map (λ file. Some file.path) files
+  each_path = each_again path_of (λ file. Some file.path) (λ file is. is.path)
+
+-- the path of each block is its file's, whether or not the block is refused; so whoever there is
+number_read : (id_of : List ℕ → Option ℕ) (id : ℕ) → id ≤ MAX_ID → resolved written_id id_of (decimal id) ≡ Ok id
+number_read id_of id small =
+    ap (λ written. or_fault Malformed written >>= (λ w. or_fault Unknown (id_of_written id_of w))) (written_decimal id small)
+    ∙ ap (λ b. or_fault Unknown (cond b (Some id) None)) (le-leb id MAX_ID small)
+
+abbrev nobody : Names
+nobody = record { written = written_id; uid = λ name. None; gid = λ name. None }
+
+nobody_numbers : ReadNumbers nobody
+nobody_numbers = record { uids = number_read (λ name. None); gids = number_read (λ name. None) }
+
+pub paths_again : (number : ℕ) (files : List FileValue) → All IsPrintable files
+    → map (λ block. path_of block.text) (blocks_from number (files_text files)) ≡ map (λ file. Some file.path) files
+paths_again = each_path nobody nobody_numbers
 
 -- ---- how long a block is
 

@@ -161,7 +161,7 @@ lists_again known mask first more names is ids =
     ∙ ap (λ found. found >>= (λ acl. default_by (names_of known) list >>= (λ default. Ok (Posix acl default)))) access
     ∙ ap (λ b. cond b (if_there (acl_by (names_of known) (pieces_of Default list))) (Ok None) >>= (λ default. Ok (Posix acl default))) none
 
--- and no line of it tells of flags
+-- and no line of it reports for flags
 no_flags_line : (tag : Tag) (fields : List (List ℕ)) (more : List ℕ) → after_prefix (codes "# flags: ") (join_with_byte colon (word_text tag ∷ fields) ++ more) ≡ None
 no_flags_line UserObj [] more = refl
 no_flags_line UserObj (field ∷ fields) more = refl

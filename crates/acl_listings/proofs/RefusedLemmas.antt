@@ -35,7 +35,7 @@ use Rattle.acl_listings.specs.declared.list_lines.ListKind.TheVariants.{Access, 
 use Rattle.acl_listings.specs.declared.lists.Lists.{Lists}
 use Rattle.acl_listings.specs.declared.lists.Lists.TheVariants as value
 use Rattle.acl_listings.proofs.AccessLemmas.{line_pieces}
-use Rattle.acl_listings.proofs.FaultyLemmas.{at_most_ok, told_ok}
+use Rattle.acl_listings.proofs.FaultyLemmas.{at_most_ok, reported_ok}
 use Rattle.acl_listings.proofs.HandedLemmas.{from_block, from_header, from_ids, from_lists}
 use Rattle.acl_names.specs.declared.directory.resolve.NameFault.{NameFault}
 use Rattle.acl_names.specs.declared.directory.resolve.NameFault.TheVariants.{Malformed, Unknown}
@@ -50,7 +50,7 @@ module _ (names : Names) where
       ≡ (list_all (λ piece. is_ok (posix.entry_by names piece)) texts && leb (length texts) MAX_ENTRIES)
   entries_ok texts =
       at_most_ok TooMany MAX_ENTRIES (entry_in (posix.entry_by names)) (λ piece. is_ok (posix.entry_by names piece))
-      (λ piece. told_ok piece_fault (posix.entry_by names piece)) texts
+      (λ piece. reported_ok piece_fault (posix.entry_by names piece)) texts
 
   -- a list whose entries are refused
   acl_refused : (texts : List (List ℕ)) (fault : AclFault) → acl_by names texts ≡ Err (Acl fault) → is_ok (entries_of (posix.entry_by names) texts) ≡ false
@@ -111,7 +111,7 @@ module _ (names : Names) where
   nfs4_refused : (said : List ℕ → Result Nfsace4 PieceFault) (list : List ℕ) (fault : AclFault) → lists.nfs4_by said (pieces list) ≡ Err (Acl fault)
       → (list_all (λ piece. is_ok (said piece)) (pieces list) && leb (length (pieces list)) MAX_ACES) ≡ false
   nfs4_refused said list fault is =
-      sym (at_most_ok TooMany MAX_ACES (λ text. map_fault lists.piece_fault (said text)) (λ piece. is_ok (said piece)) (λ piece. told_ok lists.piece_fault (said piece)) (pieces list))
+      sym (at_most_ok TooMany MAX_ACES (λ text. map_fault lists.piece_fault (said text)) (λ piece. is_ok (said piece)) (λ piece. reported_ok lists.piece_fault (said piece)) (pieces list))
       ∙ go (lists.aces_by said (pieces list)) is
     where
       go : (read : Result (List Nfsace4) AclFault) → (map_fault (λ f. Acl f) read >>= (λ aces. Ok (value.Nfs4 aces))) ≡ Err (Acl fault) → is_ok read ≡ false

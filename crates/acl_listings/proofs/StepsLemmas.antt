@@ -1,4 +1,4 @@
--- The steps of a cursor, on what is told of the bytes that are still to come.
+-- The steps of a cursor, on what is reported for the bytes that are still to come.
 use Rattle.std.proofs.Common.{◌≡◌, ℕ, ◌+◌, ◌≤◌, true, cond, List, [], ◌∷◌, ◌++◌, length, drop, get_or, Option}
 use Rattle.std.proofs.Common.{Some, None, IfSome, ap, sym, ◌∙◌, ◌⊎◌, inl, inr, append_assoc, append-nil}
 use Rattle.std.proofs.Common.{length-append, arith, subst}
@@ -52,16 +52,16 @@ goes_on_line text rest len newlines behind is =
       ends = λ none. absurd (omega arith);
     }
 
-take_told : (shown more rest : List ℕ) (left : Option (List ℕ)) → shown ≡ more ++ rest → Consumes (prepend_known shown left) (prepend_known rest left) more
-take_told shown more rest None cut = tt
-take_told shown more rest (Some bytes_to_come) cut = ap (λ t. t ++ bytes_to_come) cut ∙ append_assoc more rest bytes_to_come
+take_reported : (shown more rest : List ℕ) (left : Option (List ℕ)) → shown ≡ more ++ rest → Consumes (prepend_known shown left) (prepend_known rest left) more
+take_reported shown more rest None cut = tt
+take_reported shown more rest (Some bytes_to_come) cut = ap (λ t. t ++ bytes_to_come) cut ∙ append_assoc more rest bytes_to_come
 
 pub gone_on : (before : Option (List ℕ)) (shown : List ℕ) (left : Option (List ℕ)) (line last len newlines : ℕ) → HasGoneOn before (prepend_known shown left) line last
     → GoesOnBy shown len newlines → HasGoneOn before (prepend_known (drop len shown) left) line (last + newlines)
 gone_on before shown left line last len newlines gone by =
     let rest : by.rest ≡ drop len shown = sym (ap (λ n. drop n shown) (sym by.bytes) ∙ ap (drop (length by.more)) by.cut ∙ drop-append_seam by.more by.rest) in
     let taken : Consumes before (prepend_known by.rest left) (gone.more ++ by.more) =
-    Consumes-trans before (prepend_known shown left) (prepend_known by.rest left) gone.more by.more gone.taken (take_told shown by.more by.rest left by.cut) in
+    Consumes-trans before (prepend_known shown left) (prepend_known by.rest left) gone.more by.more gone.taken (take_reported shown by.more by.rest left by.cut) in
     record {
       more = gone.more ++ by.more;
       taken = subst (λ r. Consumes before (prepend_known r left) (gone.more ++ by.more)) rest taken;

@@ -29,7 +29,7 @@ grown buffer shown len count front =
     let whole : len + count - 0 ≡ len + count = omega arith in
     ap (λ n. take n buffer) whole ∙ take-add len count buffer ∙ ap (λ t. t ++ take count (drop len buffer)) front
 
-pub told_more : (before after : Option (List ℕ)) (shown more : List ℕ) → Consumes before after more → Keeps (prepend_known shown before) (prepend_known (shown ++ more) after)
-told_more None after shown more taken = tt
-told_more (Some told) None shown more taken = absurd taken
-told_more (Some told) (Some rest) shown more taken = append_assoc shown more rest ∙ ap (λ t. shown ++ t) (sym taken)
+pub reported_more : (before after : Option (List ℕ)) (shown more : List ℕ) → Consumes before after more → Keeps (prepend_known shown before) (prepend_known (shown ++ more) after)
+reported_more None after shown more taken = tt
+reported_more (Some reported) None shown more taken = absurd taken
+reported_more (Some reported) (Some rest) shown more taken = append_assoc shown more rest ∙ ap (λ t. shown ++ t) (sym taken)

@@ -24,7 +24,7 @@ abbrev pub list_of : Option Invalid → List EntryValue → Result (List EntryVa
 list_of None entries = Ok (in_order entries)
 list_of (Some fault) entries = Err (InvalidAcl (rule_of entries fault))
 
--- the access control list that pieces say
+-- the access control list that pieces mean
 abbrev pub acl_by : Names → List (List ℕ) → Result (List EntryValue) BlockFault
 acl_by names texts = do
   entries ← map_fault (λ fault. Acl fault) (entries_of (entry_by names) texts)

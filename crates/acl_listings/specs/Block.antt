@@ -1,4 +1,4 @@
--- What a block says of a file, and what is reported of one that says nothing.
+-- The file of a block, and the fault of a block without one.
 use Rattle.std.specs.Prelude.{ℕ, nat_le, List, length, Option, Some, None, Result, Ok, Err}
 use Rattle.std.specs.Prelude.{if◌then◌else◌}
 use Rattle.std.specs.Option.{option_and_then}
@@ -30,7 +30,7 @@ abbrev pub within_limit : List ℕ → Option (List ℕ)
 within_limit text = if nat_le (length text) MAX_BLOCK then Some text else None
 
 -- The ids of an owner and a group: if one of them is neither an id nor a name, these aren't the
--- lines of a header; else somebody is unknown, or they are these.
+-- lines of a header; else one of the names is unknown, or they are these.
 abbrev pub owners_of : Result ℕ NameFault → Result ℕ NameFault → Result (ℕ × ℕ) BlockFault
 owners_of (Ok owner) (Ok group) = Ok (owner, group)
 owners_of (Ok owner) (Err Malformed) = Err BadHeader
@@ -43,7 +43,7 @@ abbrev pub owners_by : Names → Header → Result (ℕ × ℕ) BlockFault
 owners_by names header = owners_of (resolved names.written names.uid header.owner)
     (resolved names.written names.gid header.group)
 
--- the file of which a block speaks, or the first thing that is wrong with the block
+-- the file of a block, or the block's first fault
 abbrev pub file_by : Names → List ℕ → Result FileValue BlockFault
 file_by names text = do
   block ← or_fault TooLong (within_limit text)

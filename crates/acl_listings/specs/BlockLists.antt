@@ -21,13 +21,13 @@ use Rattle.acl_listings.specs.declared.fault.BlockFault.TheVariants.{Acl}
 use Rattle.acl_listings.specs.declared.lists.Lists.{Lists}
 use Rattle.acl_listings.specs.declared.lists.Lists.TheVariants.{Nfs4}
 
--- a piece that is no NFSv4 entry: one without an effect, neither where it stands nor below, is none
+-- the fault of a piece that isn't an NFSv4 entry; one without any effect isn't one
 abbrev pub piece_fault : PieceFault → AclFault
 piece_fault piece.Syntax = BadAcl
 piece_fault piece.UnknownName = UnknownName
 piece_fault piece.InheritOnly = BadAcl
 
--- the entries that pieces say, at most 128
+-- the entries that pieces mean, at most 128
 abbrev pub aces_by : (List ℕ → Result Nfsace4 PieceFault) → List (List ℕ)
     → Result (List Nfsace4) AclFault
 aces_by said texts = at_most_read TooMany MAX_ACES (λ text. map_fault piece_fault (said text)) texts

@@ -1,23 +1,23 @@
--- What a cursor over the blocks of a listing hands out.
+-- What a cursor over the blocks of a listing returns.
 use Rattle.std.specs.Prelude.{◌≡◌, ℕ, ◌+◌, List, [], ◌∷◌, map, option_map, take, Option, Some, None}
 use Rattle.std.specs.Prelude.{⊤}
 use Rattle.acl_listings.specs.Listing.{Block, blocks_from}
 use Rattle.acl_listings.specs.declared.limits.TheConstants.{MAX_BLOCK}
 use Rattle.acl_listings.specs.declared.window.ReadFault.{ReadFault}
 
--- a block as it is handed out: of one that is too long, one byte more than a block may have
+-- a block as the cursor returns it: of one that is too long, one byte more than a block may have
 abbrev pub as_handed_out : Block → Block
 as_handed_out block = record { line = block.line; text = take (MAX_BLOCK + 1) block.text }
 
--- the blocks of a text whose first line has this number, as they are handed out
+-- the blocks of a text whose first line has this number, as the cursor returns them
 abbrev pub blocks_handed_from : ℕ → List ℕ → List Block
 blocks_handed_from number text = map as_handed_out (blocks_from number text)
 
--- those of bytes that are still to come, where these are known
+-- those of bytes that are still to come, if these are known
 abbrev pub blocks_to_come : ℕ → Option (List ℕ) → Option (List Block)
 blocks_to_come number text = option_map (blocks_handed_from number) text
 
--- the blocks that are still to come, if the reader tells its bytes; the block at hand; and the
+-- the blocks that are still to come, if the reader reports its bytes; the current block; and the
 -- fault that ended the reading
 pub record CursorValue : Type 0 where
   pub coming : Option (List Block)

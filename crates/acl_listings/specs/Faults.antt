@@ -1,4 +1,4 @@
--- Why a block gives no file, and the words that tell it.
+-- Why a block isn't a file, and the words that report it.
 use Rattle.std.specs.Prelude.{◌≡◌, ℕ, List, Result, Ok, Err, codes}
 use Rattle.acl_posix.specs.AclText as posix
 use Rattle.acl_posix.specs.declared.acl.Invalid.{Invalid}
@@ -28,12 +28,12 @@ fault_word (Acl fault) = posix.fault_word fault
 fault_word (InvalidAcl rule) = codes "invalid-acl"
 fault_word UnknownWay = codes "unknown-way"
 
--- a call's fault is what is wrong with what it reads; out of memory says nothing of that
+-- a call fails with the fault of what it reads, or out of memory, which holds for any text
 abbrev pub IsFaultOf : {A : Type 0} → Result A BlockFault → FileFault → Type 0
 IsFaultOf reading (Block fault) = reading ≡ Err fault
 IsFaultOf reading Memory = Unit {0}
 
--- a call reads what a text says, or refuses it for what is wrong with it
+-- a call reads what a text means, or fails with its fault
 abbrev pub ReadsAs : {A : Type 0} → Result A BlockFault → Result A FileFault → Type 0
 ReadsAs reading (Ok value) = reading ≡ Ok value
 ReadsAs reading (Err fault) = IsFaultOf reading fault
@@ -56,7 +56,7 @@ aces_fault ace.TooMany = Block (Acl TooMany)
 aces_fault ace.InheritOnly = Block (Acl BadAcl)
 aces_fault ace.Memory = Memory
 
--- why entries are no list, of which this is missing if one is
+-- why entries aren't a list, with the rule for an entry that is missing
 abbrev pub fault_of_entries : Rule → Invalid → FileFault
 fault_of_entries missing invalid.Missing = Block (InvalidAcl missing)
 fault_of_entries missing invalid.Repeated = Block (InvalidAcl Twice)

@@ -1,4 +1,4 @@
--- The flags of a file: the bits of its mode that are no permissions.
+-- The flags of a file: the bits of its mode that aren't permissions.
 use Rattle.std.specs.Prelude.{ℕ, Bool, true, false, ◌==◌, List, [], ◌∷◌, Option, Some, None}
 use Rattle.std.specs.Prelude.{codes, unwrap_or, if◌then◌else◌}
 use Rattle.std.specs.Option.{option_and_then}
@@ -30,7 +30,7 @@ flags_in (user ∷ group ∷ sticky ∷ []) =
     flags_of (flag_at ID_LETTER user) (flag_at ID_LETTER group) (flag_at STICKY_LETTER sticky)
 flags_in _ = None
 
--- those of a block, by its line behind the group's: `# flags: -s-`; any other comment says nothing
+-- those of a block, by the line after the group's: `# flags: -s-`; another comment has none
 abbrev pub flags_by : List ℕ → FileFlags
 flags_by list = unwrap_or
     (option_and_then flags_in (after_prefix (codes "# flags: ") (first_line list))) no_flags

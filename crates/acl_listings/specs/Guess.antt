@@ -1,4 +1,4 @@
--- What a text may be that is no listing, by its first block.
+-- What a text may be that isn't a listing, by its first block.
 use Rattle.std.specs.Prelude.{ℕ, Bool, true, false, ◌&&◌, ◌||◌, not, List, [], ◌∷◌, codes, drop}
 use Rattle.std.specs.Prelude.{bytes_eq, if◌then◌else◌, is_some, length, take}
 use Rattle.std.specs.Io.BufRead.{ends_with_byte}
@@ -22,7 +22,7 @@ is_nfs4 Posix = false
 is_nfs4 Nfs4 = true
 is_nfs4 Freebsd = true
 
--- of a letter in two bytes one is 0
+-- one byte of a letter in two bytes is 0
 abbrev pub begins_wide : List ℕ → Bool
 begins_wide text = begins (0 ∷ []) text || begins (0 ∷ []) (drop 1 text)
 

@@ -4,15 +4,15 @@ use Rattle.std.specs.Prelude.{if◌then◌else◌, bytes_eq}
 use Rattle.std.specs.Option.{option_and_then, option_or}
 use Rattle.acl_listings.specs.Lines.{after_line, first_line}
 
--- what a block's first three lines say, and its other lines as a text
+-- the fields of a block's first three lines, and its other lines as a text
 pub record Header : Type 0 where
   pub path : List ℕ
-  -- how its owner and its group are written
+  -- the owner and the group, as the block writes them
   pub owner : List ℕ
   pub group : List ℕ
   pub list : List ℕ
 
--- what stands behind a word, if the line begins with it
+-- the text after a word, if the line begins with it
 abbrev pub after_prefix : List ℕ → List ℕ → Option (List ℕ)
 after_prefix word line = if bytes_eq (take (length word) line) word
     then Some (drop (length word) line) else None
@@ -21,12 +21,12 @@ abbrev pub one_byte_at_least : List ℕ → Option (List ℕ)
 one_byte_at_least [] = None
 one_byte_at_least (byte ∷ bytes) = Some (byte ∷ bytes)
 
--- what stands behind either word for a file
+-- the text after either word for a file
 abbrev pub after_file_word : List ℕ → Option (List ℕ)
 after_file_word line =
     option_or (after_prefix (codes "# file: ") line) (after_prefix (codes "# File: ") line)
 
--- `# file: NAME` or `# File: NAME`: the name as it stands
+-- `# file: NAME` or `# File: NAME`: the name, unchanged
 abbrev pub path_in : List ℕ → Option (List ℕ)
 path_in line = option_and_then one_byte_at_least (after_file_word line)
 

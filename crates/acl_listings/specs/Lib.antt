@@ -9,6 +9,7 @@ pub mod FileFlags
 pub mod Block
 pub mod Faults
 pub mod Views
+pub mod Folders
 pub mod Extent
 pub mod Window
 pub mod Source

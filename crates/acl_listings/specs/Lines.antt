@@ -3,10 +3,10 @@ use Rattle.std.specs.Prelude.{ℕ, ◌==◌, List}
 use Rattle.std.specs.List.{after_first, before_first}
 use Rattle.acl_names.specs.Bytes.{newline}
 
--- what stands before the first newline, or all if there is none
+-- the text before the first newline, or all of it without a newline
 abbrev pub first_line : List ℕ → List ℕ
 first_line text = before_first (λ byte. byte == newline) text
 
--- what stands behind it, or nothing
+-- the text after it, or nothing
 abbrev pub after_line : List ℕ → List ℕ
 after_line text = after_first (λ byte. byte == newline) text

@@ -20,7 +20,7 @@ block_of (line ∷ lines) = Some (record {
   text = join_with_byte newline (map (λ each. each.1) (line ∷ lines));
 })
 
--- the blocks of a text whose first line has this number: its lines, parted at the empty ones
+-- the blocks of a text whose first line has this number: its lines, separated at the empty ones
 abbrev pub blocks_from : ℕ → List ℕ → List Block
 blocks_from number text =
     filter_map block_of (slice_split is_empty_line (enumerate_from number (lines_of text)))

@@ -1,4 +1,4 @@
--- The block of a file with NFSv4 entries in the place of its lists.
+-- The block of a file with NFSv4 entries instead of its lists.
 use Rattle.std.specs.Prelude.{◌≡◌, ◌<◌, ◌≤◌, ◌+◌, ℕ, List, [], ◌∷◌, ◌++◌, Ok, codes, length}
 use Rattle.std.specs.Prelude.{if◌then◌else◌}
 use Rattle.std.specs.List.{flat_map}
@@ -22,7 +22,7 @@ ended_line text = first_line text ++ newline ∷ []
 abbrev pub flags_line : List ℕ → List ℕ
 flags_line list = if begins (codes "# flags: ") (first_line list) then ended_line list else []
 
--- the lines of a block at the front, as they stand: those of the file, its owner, its group and its
+-- the lines at the front of a block, unchanged: those of the file, its owner, its group and its
 -- flags
 abbrev pub front_of : List ℕ → List ℕ
 front_of text =
@@ -37,9 +37,9 @@ aces_lines print aces = flat_map (λ ace. print ace ++ newline ∷ []) aces
 abbrev pub nfs4_block : (Nfsace4 → List ℕ) → List ℕ → List Nfsace4 → List ℕ
 nfs4_block print text aces = front_of text ++ aces_lines print aces
 
--- A block says the same file, with other lists, if a line for each of some entries, which are
--- printed so, stands in the place of its own. They are entries of a list, there is one at least,
--- and the block is no longer than one may be.
+-- A block is read as the same file with other lists, if its own entries are replaced by a line for
+-- each of these, printed in this form. They are entries of a list, there is at least one, and the
+-- block is no longer than one may be.
 abbrev pub AreReadAgain : (Nfsace4 → List ℕ) → Type 0
 AreReadAgain print =
     (names : Names) (text : List ℕ) (file : FileValue) (aces : List Nfsace4)

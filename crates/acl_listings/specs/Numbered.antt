@@ -1,4 +1,4 @@
--- How files are printed with their ids in decimal, as `getfacl -Rnp` and `nfs4_getfacl` print them.
+-- Printing files with decimal ids, as `getfacl -Rnp` and `nfs4_getfacl` print them.
 use Rattle.std.specs.Prelude.{◌≡◌, ℕ, ◌+◌, ◌<◌, ◌≤◌, ◌==◌, false, List, [], ◌∷◌, ◌++◌, length}
 use Rattle.std.specs.Prelude.{codes, decimal, map, Option, Some, None, Result, Ok, Err}
 use Rattle.std.specs.List.{All, flat_map, join_with_byte}
@@ -30,11 +30,11 @@ abbrev pub entry_text : EntryValue → List ℕ
 entry_text entry = join_with_byte colon
     (word_text entry.tag ∷ number_text entry.tag ∷ perms_text entry.perms ∷ [])
 
--- one entry per line, each behind this word
+-- one entry per line, each after this word
 abbrev pub entries_text : List ℕ → List EntryValue → List ℕ
 entries_text word = flat_map (λ entry. line_text word (entry_text entry))
 
--- those of a default list behind its word
+-- those of a default list, each after its word
 abbrev pub default_text : Option (List EntryValue) → List ℕ
 default_text None = []
 default_text (Some default) = entries_text (codes "default:") default
@@ -58,7 +58,7 @@ file_text file = header_text file.path file.owner file.group
 abbrev pub files_text : List FileValue → List ℕ
 files_text = flat_map file_text
 
--- lists that are printed so that they are read again
+-- a list whose text is read again
 abbrev pub IsPrintableDefault : Option (List EntryValue) → Type 0
 IsPrintableDefault None = Unit {0}
 IsPrintableDefault (Some default) = IsAcl default × HaveIds default
@@ -78,8 +78,8 @@ pub record IsPrintable (file : FileValue) : Type 0 where
   pub lists : ArePrintable file.lists
   pub short : length (file_text file) ≤ MAX_BLOCK + 2
 
--- what is read of a printed file: the file; but no block says an NFSv4 list without entries, and
--- what is printed of one is refused as no list
+-- what is read from a printed file: the file; but an NFSv4 list without entries has no lines, and
+-- its block is refused for having no list
 abbrev pub said_with : FileValue → Lists → Result FileValue BlockFault
 said_with file (Nfs4 []) = Err (InvalidAcl NoOwner)
 said_with file lists = Ok file
@@ -87,7 +87,7 @@ said_with file lists = Ok file
 abbrev pub said_of : FileValue → Result FileValue BlockFault
 said_of file = said_with file file.lists
 
--- the blocks of a text say these files, in this order, whoever there is
+-- the blocks of a text are read as these files, in this order, by whatever names
 abbrev pub SaysFiles : List FileValue → List ℕ → Type 0
 SaysFiles files text = (names : Names) → ReadNumbers names
     → map (λ block. file_by names block.text) (blocks_of text) ≡ map said_of files

@@ -40,7 +40,7 @@ block_text known file = line_text (codes "# file: ") file.path
 abbrev pub listing_text : Known → List FileValue → List ℕ
 listing_text known = flat_map (block_text known)
 
--- a list that is printed so that it is read again: an access list with no default list beside it
+-- lists whose text is read again: an access list without a default list
 abbrev pub ArePrintable : Lists → Type 0
 ArePrintable (Posix access None) = IsAcl access × HaveIds access
 ArePrintable (Posix access (Some default)) = ⊥

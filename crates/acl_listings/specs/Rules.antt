@@ -14,12 +14,12 @@ use Rattle.acl_listings.specs.declared.rule.Rule.TheVariants.{NoMask}
 abbrev pub lacks : Tag → List EntryValue → Bool
 lacks tag entries = not (list_any (λ entry. same_tag entry.tag tag) entries)
 
--- the first that is missing of the three entries that every list has
+-- the first that is missing of the three entries that every list must have
 abbrev pub missing_of : List EntryValue → Rule
 missing_of entries =
     if lacks UserObj entries then NoOwner else if lacks GroupObj entries then NoGroup else NoOther
 
--- the rule that entries break which are refused for this
+-- the rule that entries break if they are refused for this
 abbrev pub rule_of : List EntryValue → Invalid → Rule
 rule_of entries Missing = missing_of entries
 rule_of entries Repeated = Twice

@@ -2,8 +2,7 @@
 use Rattle.std.specs.Prelude.{ℕ, Bool, List, Option, drop}
 use Rattle.std.specs.Io.KnownBytes.{prepend_known}
 
--- those that are at hand, those that the reader has left if it tells them, and whether its end was
--- seen
+-- those in the buffer, those that the reader has left if it reports them, and whether it has ended
 pub record SourceValue : Type 0 where
   pub shown : List ℕ
   pub left : Option (List ℕ)
@@ -13,6 +12,6 @@ pub record SourceValue : Type 0 where
 abbrev pub bytes_to_come : SourceValue → Option (List ℕ)
 bytes_to_come source = prepend_known source.shown source.left
 
--- all but the first ones, which are at hand
+-- all but the first ones, which are in the buffer
 abbrev pub bytes_after : ℕ → SourceValue → Option (List ℕ)
 bytes_after count source = prepend_known (drop count source.shown) source.left

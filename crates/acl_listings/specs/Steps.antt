@@ -12,6 +12,6 @@ pub record GoesOn (before after : Option (List ℕ)) (line last : ℕ) : Type 0 
   pub counted : line + newlines_in more ≡ last
   pub ends : IfSome after EndsBlock
 
--- the block at hand: so many of the bytes that are shown, or, if it is too long, those kept of it
+-- the current block: so many of the buffered bytes, or, if it is too long, those kept of it
 abbrev pub text_at_hand : ℕ → List ℕ → List ℕ → List ℕ
 text_at_hand len shown head = if nat_lt 0 len then take len shown else head

@@ -1,4 +1,4 @@
--- Which folders stand above a file, by their paths alone.
+-- Which folders are parents of a file, by their paths alone.
 use Rattle.std.specs.Prelude.{◌&&◌, ℕ, Bool, true, false, not, List, [], ◌∷◌, length, take, Option}
 use Rattle.std.specs.Prelude.{Some, None, bytes_eq, codes, if◌then◌else◌, nat_lt}
 use Rattle.std.specs.Cmp.Lexicographic.{slice_cmp}
@@ -10,7 +10,7 @@ use Rattle.acl_listings.specs.declared.way.Place.{Place}
 use Rattle.acl_listings.specs.declared.way.Place.TheVariants.{Elsewhere, Same, Inside, Deeper}
 use Rattle.acl_listings.specs.declared.way.TheConstants.{SLASH}
 
--- a part of a path leads somewhere: slashes in a row are one, and "." is where one is already
+-- a part of a path is a step: repeated slashes count as one, and "." is no step
 abbrev pub leads : List ℕ → Bool
 leads part = nat_lt 0 (length part) && not (bytes_eq part (codes "."))
 
@@ -21,7 +21,7 @@ steps_among each = filter leads each
 abbrev pub steps_of : List ℕ → List (List ℕ)
 steps_of path = steps_among (parts SLASH path)
 
--- how steps compare: by the first that differ, and else what there is of the longer comes behind
+-- how steps compare: by the first that differ, and else the longer comes after
 abbrev pub steps_cmp : List (List ℕ) → List (List ℕ) → Ordering
 steps_cmp = slice_cmp (slice_cmp nat_cmp)
 
@@ -33,21 +33,21 @@ abbrev pub begin_alike : Bool → Bool → Bool
 begin_alike true other = other
 begin_alike false other = not other
 
--- the steps behind these, if the steps begin with these
+-- the steps after these, if the steps begin with these
 abbrev pub steps_behind : List (List ℕ) → List (List ℕ) → Option (List (List ℕ))
 steps_behind [] steps = Some steps
 steps_behind (first ∷ more) [] = None
 steps_behind (first ∷ more) (step ∷ steps) =
     if bytes_eq first step then steps_behind more steps else None
 
--- where that leads
+-- the place of a path with these steps below a folder
 abbrev pub place_by : Option (List (List ℕ)) → Place
 place_by None = Elsewhere
 place_by (Some []) = Same
 place_by (Some (step ∷ [])) = Inside
 place_by (Some (step ∷ next ∷ steps)) = Deeper
 
--- where a path leads, seen from the folder of another
+-- where a path is, relative to another folder's path
 abbrev pub place_below : List ℕ → List ℕ → Place
 place_below above path = if begin_alike (is_absolute above) (is_absolute path)
     then place_by (steps_behind (steps_of above) (steps_of path)) else Elsewhere
@@ -62,10 +62,10 @@ abbrev pub is_inside : Place → Bool
 is_inside Inside = true
 is_inside _ = false
 
--- the one is the path of a folder above the other: of one on the way to it
+-- the one is the path of a parent folder of the other
 abbrev pub is_above : List ℕ → List ℕ → Bool
 is_above above path = is_below (place_below above path)
 
--- and of the folder in which the other lies
+-- and of its direct parent
 abbrev pub is_folder_of : List ℕ → List ℕ → Bool
 is_folder_of folder path = is_inside (place_below folder path)

@@ -2,7 +2,7 @@
 use Rattle.std.specs.Prelude.{◌≡◌, ℕ, ◌≤◌, List, ◌++◌, length}
 use Rattle.acl_listings.specs.declared.window.TheConstants.{CAPACITY}
 
--- the bytes stand between these bounds
+-- the bytes are between these bounds
 pub record AreBounds (buffer : List ℕ) (start end : ℕ) : Type 0 where
   pub ordered : start ≤ end
   pub within : end ≤ length buffer

@@ -15,8 +15,8 @@ use acl_names::ResolveNames;
 use acl_posix::{Acl, Invalid, read_entries};
 use std::alloc::Global;
 
-/// The lists that the lines behind a block's header spell. If it has a default list, its lines and
-/// the others are copied.
+/// Reads the lists in the lines after a block's header. If it has a default list, it copies the
+/// lines of each list.
 pub(crate) fn read_posix<N: ResolveNames>(
     alloc: Global,
     list: &[u8],
@@ -39,11 +39,11 @@ pub(crate) fn read_posix<N: ResolveNames>(
     })
 }
 
-/// How long the line of others is in a default list, as `getfacl` prints it.
+/// How many bytes the others' line of a default list has, as `getfacl` prints it.
 const DEFAULT_OTHER_LEN: usize = 18;
 
-/// Whether the last line is that of others in a default list, as `getfacl` prints it. It only says
-/// which way of reading is shorter.
+/// Whether the last line is the others' line of a default list, as `getfacl` prints it. It only
+/// decides which way of reading is tried.
 fn ends_in_default(list: &[u8]) -> bool {
     match list.len().checked_sub(DEFAULT_OTHER_LEN) {
         Some(at) => list[at..].starts_with(b"default:other::"),
@@ -51,8 +51,9 @@ fn ends_in_default(list: &[u8]) -> bool {
     }
 }
 
-/// The access control list of a block that has no default list, if its lines stand as `getfacl`
-/// prints them, the owner's entry first. A fast path: `None` says nothing of the lines.
+/// The access control list of a block without a default list, if its lines are as `getfacl` prints
+/// them, the owner's entry first. A fast path: on `None` the caller has to read the lines
+/// otherwise.
 pub(crate) fn read_access_alone<N: ResolveNames>(
     alloc: Global,
     list: &[u8],
@@ -73,7 +74,7 @@ pub(crate) fn read_access_alone<N: ResolveNames>(
     }
 }
 
-/// The access control list that its lines spell.
+/// Reads the access control list of this kind from its lines.
 fn read_acl_of<N: ResolveNames>(
     alloc: Global,
     kind: ListKind,
@@ -86,7 +87,7 @@ fn read_acl_of<N: ResolveNames>(
     read_acl(alloc, &lines, names)
 }
 
-/// The access control list that a text spells.
+/// Reads an access control list from a text.
 fn read_acl<N: ResolveNames>(alloc: Global, text: &[u8], names: &N) -> Result<Acl, FileFault>
     ensures { ReadsAs (acl_by (N.names names.now) (pieces text.now)) result }
 {
@@ -98,7 +99,8 @@ fn read_acl<N: ResolveNames>(alloc: Global, text: &[u8], names: &N) -> Result<Ac
     }
 }
 
-/// Why entries are no access control list, of which this is missing if one is.
+/// Why entries don't make an access control list; `missing` is the rule for an entry that is
+/// missing.
 fn fault_of(fault: Invalid, missing: Rule) -> FileFault
     ensures { result ≡ fault_of_entries missing fault }
 {

@@ -16,21 +16,21 @@ use std::alloc::{AllocError, Global};
 use std::io::Read;
 use std::marker::Model;
 
-/// The blocks of a listing that are still to come, and the one at hand. It takes a buffer of
-/// constant size, and reads a piece only when it needs more bytes.
+/// A cursor over the blocks of a listing. It takes a buffer of constant size, and reads only when
+/// it needs more bytes.
 ///
-/// A contract sees, if the reader tells its bytes, the list of the blocks to come as they are
-/// handed out; the block at hand; and the fault that ended the reading.
+/// If the reader reports its bytes, a contract sees the list of the blocks to come, as `text`
+/// returns them; the current block; and the fault that ended the reading.
 #[derive(Drop)]
 pub struct Blocks<R: Read + Drop> {
     source: Source<R>,
-    /// The first bytes of the block at hand, if it is too long; else none.
+    /// The first bytes of the current block, if it is too long; else empty.
     head: Vec<u8>,
-    /// How many of the bytes shown are the block at hand; none if it is too long.
+    /// How many of the buffered bytes are the current block; 0 if it is too long.
     len: usize,
-    /// The number of its first line.
+    /// The number of the current block's first line.
     first: u64,
-    /// The number of the line to which the byte behind it belongs.
+    /// The number of the line that the next byte belongs to.
     line: u64,
     fault: Option<ReadFault>,
 }
@@ -56,8 +56,8 @@ impl<R: Read + Drop> Model for Blocks<R> {
 }
 
 impl<R: Read + Drop> Blocks<R> {
-    /// The blocks of the listing that the reader reads. None is at hand yet: its line is 0, and its
-    /// text empty.
+    /// The blocks of the listing that the reader reads. There is no current block yet: `line` is 0,
+    /// and `text` empty.
     pub fn new(alloc: Global, reader: R) -> Result<Blocks<R>, AllocError>
         ensures blocks { IfOk result (λ blocks.
             blocks.coming ≡ blocks_to_come 1 (R.remaining reader)) }
@@ -74,11 +74,10 @@ impl<R: Read + Drop> Blocks<R> {
         })
     }
 
-    /// Takes the next block, which is then at hand. `false` if there is none, now and in each later
-    /// call. A read that was interrupted is made again. After a fault each further call is answered
-    /// by it.
+    /// Goes to the next block. Returns `false` if there is none, in each later call too. It repeats
+    /// interrupted reads. After a fault each further call returns that fault.
     pub fn advance(&mut self) -> Result<bool, ReadFault>
-        // Of a reader that tells its bytes.
+        // Of a reader that reports its bytes.
         ensures block { IfOk result (λ some. MatchBool some
             (HandsOut self.old.coming self.new.block self.new.coming)
             (IsOver self.old.coming × IsOver self.new.coming)) }
@@ -99,15 +98,15 @@ impl<R: Read + Drop> Blocks<R> {
         }
     }
 
-    /// The number of the first line of the block at hand, from 1.
+    /// The number of the current block's first line, from 1.
     pub fn line(&self) -> u64
         ensures { result ≡ self.now.block.line }
     {
         self.first
     }
 
-    /// The block at hand, without the newline of its last line. Of one that is too long, its first
-    /// 65,537 bytes.
+    /// The current block, without the newline of its last line; of a block that is too long, the
+    /// first 65,537 bytes.
     pub fn text(&self) -> &[u8]
         ensures { result.now ≡ self.now.block.text }
     {
@@ -138,17 +137,17 @@ impl<R: Read + Drop> Blocks<R> {
     }
 }
 
-/// What was found of a block.
+/// What was taken for a block.
 #[derive(Clone, Copy)]
 struct Taken {
-    /// How many bytes it has of those shown; none if it is too long.
+    /// How many of the buffered bytes it has; 0 if it is too long.
     len: usize,
     /// The number of its last line.
     last: u64,
 }
 
-/// The block at the front, whose first line has this number. Of one that is too long, the first
-/// bytes are kept, and all are taken.
+/// Takes the block at the front, whose first line has this number. Of a block that is too long it
+/// keeps the first bytes, and skips the rest.
 fn take_block<R: Read + Drop>(
     source: &mut Source<R>,
     head: &mut Vec<u8>,

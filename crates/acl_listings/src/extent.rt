@@ -1,4 +1,4 @@
-//! How far the first block of a text reaches.
+//! How many bytes the first block of a text has.
 
 ghost use Rattle.std.specs.Prelude.{◌<◌, IfSome};
 ghost use Rattle.acl_listings.specs.Extent.{BeginsLine, GoesOnBy, IsExtent};
@@ -6,21 +6,20 @@ ghost use Rattle.acl_listings.specs.Extent.{BeginsLine, GoesOnBy, IsExtent};
 use crate::newlines::{count_below, newlines_at};
 use acl_names::before_byte;
 
-/// How far a block reaches.
+/// The extent of a block.
 #[derive(Clone, Copy, Debug, PartialEq, Eq)]
 pub(crate) struct Extent {
     /// How many bytes it has, without the newline of its last line.
     pub len: usize,
-    /// How many newlines stand between its lines.
+    /// How many newlines are between its lines.
     pub newlines: usize,
 }
 
-/// Of how many bytes it is seen at once whether a newline follows a newline: of 64 all but the
-/// last.
+/// How many bytes one step checks for a newline after a newline: all but the last of 64.
 const STEP: usize = 63;
 
-/// How far the block at the front of a text reaches, if an empty line ends it that isn't among the
-/// last bytes. A fast path: `None` says nothing of the text.
+/// The extent of the block at the front of a text, if an empty line ends it before the last bytes.
+/// A fast path: on `None` the caller has to use `extent_by_lines`.
 fn extent_at_once(text: &[u8]) -> Option<Extent>
     requires { BeginsLine text.now }
     ensures { IfSome result (λ extent. IsExtent text.now extent.len extent.newlines) }
@@ -43,7 +42,7 @@ fn extent_at_once(text: &[u8]) -> Option<Extent>
     None
 }
 
-/// How far the block at the front of a text reaches: up to an empty line, or to the end.
+/// The extent of the block at the front of a text: up to an empty line, or to the end.
 pub(crate) fn extent_of(text: &[u8]) -> Extent
     requires { BeginsLine text.now }
     ensures { IsExtent text.now result.len result.newlines }
@@ -68,8 +67,8 @@ fn extent_by_lines(text: &[u8]) -> Extent
     Extent { len, newlines }
 }
 
-/// How far a block goes on that was begun before the text: up to an empty line, or to the end. That
-/// is no byte where a line ended and the text doesn't show that the next has one.
+/// The extent of the rest of a block that began before the text: up to an empty line, or to the
+/// end. It has no byte if a line ended there and the text doesn't show that the next has one.
 pub(crate) fn extent_of_rest(text: &[u8]) -> Extent
     ensures { GoesOnBy text.now result.len result.newlines }
 {

@@ -1,4 +1,4 @@
-//! Why a block is no file.
+//! Why a block isn't a file.
 
 ghost use Rattle.std.specs.Prelude.{◌≡◌};
 ghost use Rattle.acl_listings.specs.Faults.{aces_fault, entries_fault, out_of_memory};
@@ -9,31 +9,31 @@ use acl_nfs4::AceFault;
 use acl_posix::{AclFault, TextFault};
 use std::alloc::AllocError;
 
-/// What is wrong with a block, in the order in which it is reported.
+/// What is wrong with a block. The first in this order is reported.
 #[derive(Clone, Copy, Debug, PartialEq, Eq)]
 pub enum BlockFault {
     /// It has more than 65,536 bytes.
     TooLong,
     /// Its first three lines aren't those of a file, its owner and its group.
     BadHeader,
-    /// A block before it has its path, where a path counts once.
+    /// A block before it has the same path, where a path may occur once.
     RepeatedPath,
-    /// The owner's name is one that nobody has.
+    /// No user has the owner's name.
     UnknownOwner,
-    /// The group's name is one that no group has.
+    /// No group has the group's name.
     UnknownGroup,
-    /// Its other lines spell no entries.
+    /// Its other lines aren't entries.
     Acl(AclFault),
-    /// Its entries are no access control list: they break this rule.
+    /// Its entries don't make an access control list: they break this rule.
     InvalidAcl(Rule),
-    /// It reads, but a folder above it doesn't, or isn't there.
+    /// It is a file, but a parent folder's block is malformed or missing.
     UnknownWay,
 }
 
 impl BlockFault {
     ghost use Rattle.acl_listings.specs.Faults.{fault_word};
 
-    /// The word that tells it.
+    /// The word by which commands report it, as `bad-header`.
     pub fn word(self) -> &'static str
         ensures { result.now ≡ fault_word self }
     {
@@ -50,12 +50,12 @@ impl BlockFault {
     }
 }
 
-/// Why a block gives no file.
+/// Why no file was read from a block.
 #[derive(Clone, Copy, Debug, PartialEq, Eq)]
 pub enum FileFault {
-    /// The block says none.
+    /// The block isn't one.
     Block(BlockFault),
-    /// Memory ran out, which says nothing of the block.
+    /// Memory ran out; the block may be one.
     Memory,
 }
 
@@ -93,7 +93,7 @@ impl From<AceFault> for FileFault {
 
     fn from(error: AceFault) -> FileFault {
         match error {
-            // An entry that has an effect neither where it stands nor below is none.
+            // An entry without any effect isn't an entry here.
             AceFault::Syntax | AceFault::InheritOnly => {
                 FileFault::Block(BlockFault::Acl(AclFault::BadAcl))
             }

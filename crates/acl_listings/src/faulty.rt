@@ -1,4 +1,4 @@
-//! Which line of a block is at fault.
+//! The line of a block that is at fault.
 
 ghost use Rattle.std.specs.Prelude.{◌≡◌, ◌≤◌, ◌+◌, false, true, length, IfNone, IfSome};
 ghost use Rattle.acl_names.specs.Bytes.{newline};
@@ -18,9 +18,9 @@ use acl_names::{NameFault, Parts, PieceReader, Pieces, ResolveNames};
 use acl_nfs4::{MAX_ACES, NamedAceReader};
 use acl_posix::{EntryReader, MAX_ENTRIES};
 
-/// The line of a block that is at fault, and how many stand before it: the first for what is wrong
-/// with the block as a whole, and in a list the one in which the first entry stands that is
-/// malformed or is one too many.
+/// The line of a block that is at fault, and how many lines are before it. For a fault of the block
+/// as a whole this is the first line; for a fault of a list, the line with the first entry that is
+/// malformed or one too many.
 pub fn faulty_line<'t, N: ResolveNames>(
     text: &'t [u8],
     fault: BlockFault,
@@ -33,7 +33,7 @@ pub fn faulty_line<'t, N: ResolveNames>(
     (before, line_at(text, before))
 }
 
-/// How many lines of a block stand before the one that is at fault.
+/// How many lines of a block are before the one at fault.
 fn faulty_at<N: ResolveNames>(text: &[u8], fault: BlockFault, names: &N) -> usize
     ensures { IsFaultyAt (N.names names.now) fault text.now result }
 {
@@ -52,7 +52,7 @@ fn faulty_at<N: ResolveNames>(text: &[u8], fault: BlockFault, names: &N) -> usiz
     }
 }
 
-/// The line of a text before which so many stand.
+/// The line of a text after `before` others.
 fn line_at(text: &[u8], before: usize) -> &[u8]
     ensures { result.now ≡ line_at text.now before }
 {
@@ -66,7 +66,7 @@ fn line_at(text: &[u8], before: usize) -> &[u8]
     line
 }
 
-/// How many lines stand before the first of three that is none of a header.
+/// How many lines are before the first of three that isn't one of a header.
 fn before_bad_header<N: ResolveNames>(text: &[u8], names: &N) -> usize
     ensures { result ≡ before_bad_header (N.names names.now) text.now }
 {
@@ -81,7 +81,7 @@ fn before_bad_header<N: ResolveNames>(text: &[u8], names: &N) -> usize
     }
 }
 
-/// Whether the line says who owns the file: by an id, or by a name.
+/// Whether the line names the file's owner, by an id or a name.
 fn is_owner_line<N: ResolveNames>(line: &[u8], names: &N) -> bool
     ensures { result ≡ is_owner_line (N.names names.now) line.now }
 {
@@ -91,8 +91,7 @@ fn is_owner_line<N: ResolveNames>(line: &[u8], names: &N) -> bool
     }
 }
 
-/// How many lines of a list stand before the first in which an entry is malformed or is one too
-/// many.
+/// How many lines of a list are before the first with an entry that is malformed or one too many.
 fn before_bad_entry<N: ResolveNames>(list: &[u8], names: &N) -> usize
     ensures first { IsBadLine (N.names names.now) (faulty_kind (N.names names.now) list.now)
         (parts newline list.now) result }
@@ -118,8 +117,8 @@ fn bad_line_or_first<N: ResolveNames>(list: &[u8], kind: ListKind, names: &N) ->
     }
 }
 
-/// How many lines stand before the first in which an entry of the list is malformed or is one too
-/// many, if there is one.
+/// How many lines are before the first with an entry of this list that is malformed or one too
+/// many; `None` without such an entry.
 fn bad_line<N: ResolveNames>(list: &[u8], kind: ListKind, names: &N) -> Option<usize>
     ensures first { IfSome result (IsFirstFaulty (N.names names.now) kind
         (parts newline list.now)) }
@@ -152,8 +151,8 @@ fn most(kind: ListKind) -> usize
     }
 }
 
-/// How many more entries of the list may stand behind a line, before which there was room for so
-/// many. `None` if one of its entries is malformed, or is one too many.
+/// How many more entries the list may have after a line, if it may have `room` before it. `None` if
+/// an entry of the line is malformed or one too many.
 fn room_behind_line<N: ResolveNames>(
     line: &[u8],
     kind: ListKind,
@@ -168,7 +167,7 @@ fn room_behind_line<N: ResolveNames>(
     }
 }
 
-/// The same behind what a line has of the list.
+/// The same for the part of a line that belongs to the list.
 fn room_behind<N: ResolveNames>(
     text: &[u8],
     kind: ListKind,
@@ -188,7 +187,7 @@ fn room_behind<N: ResolveNames>(
     Some(left)
 }
 
-/// Whether the piece is an entry of such a list.
+/// Whether the piece is an entry of a list of this kind.
 fn is_entry<N: ResolveNames>(piece: &[u8], kind: ListKind, names: &N) -> bool
     ensures { result ≡ is_entry (N.names names.now) kind piece.now }
 {

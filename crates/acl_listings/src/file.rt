@@ -1,4 +1,4 @@
-//! What a block says of a file.
+//! Reading a file from a block.
 
 ghost use Rattle.std.specs.Prelude.{◌≡◌, Ok, IfErr, IfOk, option_map};
 ghost use Rattle.acl_listings.specs.Block.{file_by, owners_by, path_of};
@@ -42,8 +42,8 @@ fn read_owners<N: ResolveNames>(names: &N, header: &Header<'_>) -> Result<(Uid, 
     }
 }
 
-/// The file of which a block speaks, by these names. A block without a file is refused for the
-/// first thing that is wrong with it; `Memory` comes only if memory runs out.
+/// Reads the file of a block, and resolves its names by `names`. Fails with the first fault of the
+/// block, in the order of `BlockFault`, or if memory runs out.
 pub fn read_file<'t, N: ResolveNames>(
     alloc: Global,
     text: &'t [u8],
@@ -68,7 +68,7 @@ pub fn read_file<'t, N: ResolveNames>(
     })
 }
 
-/// What `path_of` and `lines_behind` say of a block, by one search for the end of its first line.
+/// `path_of` and `lines_behind` of a block, by one search for the end of its first line.
 pub fn path_and_lines(text: &[u8]) -> (Option<&[u8]>, &[u8])
     ensures path { option_map (λ path. path.now) result.0 ≡ path_of text.now }
     ensures lines { result.1.now ≡ after_line text.now }
@@ -80,8 +80,8 @@ pub fn path_and_lines(text: &[u8]) -> (Option<&[u8]>, &[u8])
     (read_path(line), behind)
 }
 
-/// The path in a block's first line, by which a fault of the block is reported. `None` if that line
-/// is no file's, or is longer than a block may be.
+/// The path in a block's first line, by which its faults are reported. `None` if that line isn't a
+/// file's, or is longer than a block may be.
 pub fn path_of(text: &[u8]) -> Option<&[u8]>
     ensures { option_map (λ path. path.now) result ≡ path_of text.now }
 {
@@ -89,8 +89,8 @@ pub fn path_of(text: &[u8]) -> Option<&[u8]>
     path
 }
 
-/// The lines of a block behind its first. Of two blocks that are no longer than a block may be, and
-/// whose first lines are files', these lines alone say what differs but for the path.
+/// The lines of a block after its first. If blocks aren't too long and begin with a file's line,
+/// their files differ in more than the path only if these lines differ.
 pub fn lines_behind(text: &[u8]) -> &[u8]
     ensures { result.now ≡ after_line text.now }
 {

@@ -5,12 +5,12 @@ ghost use Rattle.acl_listings.specs.FileFlags.{flag_at, flags_by, flags_in, no_f
 
 use crate::header::{after_prefix, split_line};
 
-/// The letter of both flags by which a program runs as its file's owner or group.
+/// The letter of the flags setuid and setgid.
 const ID_LETTER: u8 = b's';
 
 const STICKY_LETTER: u8 = b't';
 
-/// The flags of a file: the bits of its mode that are no permissions.
+/// The flags of a file: the bits of its mode that aren't permissions.
 #[derive(Clone, Copy, Debug, PartialEq, Eq)]
 pub struct FileFlags {
     pub set_user_id: bool,
@@ -18,8 +18,8 @@ pub struct FileFlags {
     pub sticky: bool,
 }
 
-/// The flags that the lines behind a block's header tell: `# flags: -s-` in the first of them. Any
-/// other comment tells none.
+/// Reads the flags in the lines after a block's header: `# flags: -s-` in the first of them.
+/// Without that line there are none.
 pub(crate) fn read_flags(list: &[u8]) -> FileFlags
     ensures { result ≡ flags_by list.now }
 {
@@ -49,7 +49,7 @@ fn flags_or_none(text: &[u8]) -> FileFlags
     }
 }
 
-/// The flags that three characters tell.
+/// Reads flags of three characters; `None` for other texts.
 fn flags_in(text: &[u8]) -> Option<FileFlags>
     ensures { result ≡ flags_in text.now }
 {
@@ -70,7 +70,7 @@ fn flags_in(text: &[u8]) -> Option<FileFlags>
     }
 }
 
-/// Whether the flag of the letter is set; a hyphen says that it isn't.
+/// Whether the byte sets the flag of the letter; a hyphen doesn't; `None` for other bytes.
 fn flag_at(letter: u8, byte: u8) -> Option<bool>
     ensures { result ≡ flag_at letter byte }
 {

@@ -1,4 +1,4 @@
-//! What a text may be that is no listing.
+//! Guesses what a text is that isn't a listing.
 
 ghost use Rattle.std.specs.Prelude.{◌≡◌};
 ghost use Rattle.std.specs.Io.BufRead.{ends_with_byte};
@@ -8,12 +8,12 @@ ghost use Rattle.acl_listings.specs.Guess.{begins, begins_wide, guess_of_lines, 
 use crate::header::{read_path, split_line};
 use acl_forms::{Form, form_of};
 
-/// What a text may be of which no block reads, by its first block.
+/// What a text may be in which no block is a file, by its first block.
 #[derive(Clone, Copy, Debug, PartialEq, Eq)]
 pub enum Guess {
-    /// It is packed.
+    /// It is compressed by gzip.
     Gzip,
-    /// Its characters have two bytes.
+    /// Its characters have two bytes, as in UTF-16.
     Utf16,
     /// Its lines end with a carriage return and a newline.
     CarriageReturns,
@@ -21,14 +21,14 @@ pub enum Guess {
     Tabular,
     /// Its blocks have no owner, as `getfacl -c` and `nfs4_getfacl` print.
     NoOwners,
-    /// It is none that is known here.
+    /// It is none of these.
     NoListing,
 }
 
 impl Guess {
     ghost use Rattle.acl_listings.specs.Guess.{guess_of, guess_words};
 
-    /// What the text may be whose first block this is.
+    /// The guess for a text with this first block.
     pub fn of(block: &[u8]) -> Guess
         ensures { result ≡ guess_of block.now }
     {
@@ -46,7 +46,7 @@ impl Guess {
         guess_of_lines(first, second)
     }
 
-    /// The words that ask whether it is so.
+    /// The words that ask whether the guess is right.
     pub fn words(self) -> &'static str
         ensures { result.now ≡ guess_words self }
     {
@@ -61,7 +61,7 @@ impl Guess {
     }
 }
 
-/// What a text may be, by its first line and its second.
+/// The guess by a text's first line and its second.
 fn guess_of_lines(first: &[u8], second: &[u8]) -> Guess
     ensures { result ≡ guess_of_lines first.now second.now }
 {
@@ -74,7 +74,7 @@ fn guess_of_lines(first: &[u8], second: &[u8]) -> Guess
     if read_path(first).is_some() && !begins(b"# owner: ", second) {
         return Guess::NoOwners;
     }
-    // `getfacl -c` leaves out the whole header, and so do tools for NFSv4 lists, of one file.
+    // `getfacl -c` omits the whole header, and so do tools for NFSv4 lists of one file.
     if begins(b"user::", first) || is_nfs4(form_of(first)) {
         return Guess::NoOwners;
     }
@@ -97,7 +97,7 @@ fn is_nfs4(form: Form) -> bool
     }
 }
 
-/// Whether one of its first two bytes is 0, as of a letter in two bytes.
+/// Whether one of the first two bytes is 0, as in a letter of two bytes.
 fn begins_wide(text: &[u8]) -> bool
     ensures { result ≡ begins_wide text.now }
 {

@@ -7,14 +7,14 @@ ghost use Rattle.acl_listings.specs.Views.{view_header};
 
 use acl_names::before_byte;
 
-/// What stands at the front of a block, and its list.
+/// The fields of a block's header, and the lines after it.
 #[derive(Clone, Copy, Debug)]
 pub(crate) struct Header<'t> {
     pub path: &'t [u8],
-    /// How its owner is written, and its group.
+    /// The owner and the group, as the block writes them.
     pub owner: &'t [u8],
     pub group: &'t [u8],
-    /// The lines behind the group's.
+    /// The lines after the group's.
     pub list: &'t [u8],
 }
 
@@ -41,8 +41,8 @@ pub(crate) fn read_header(text: &[u8]) -> Option<Header<'_>>
     }
 }
 
-/// The path in a file's line: what stands behind `# file: ` or `# File: `, as it stands, if that is
-/// anything.
+/// The path in a file's line: the text after `# file: ` or `# File: `, unchanged; `None` if it is
+/// empty.
 pub(crate) fn read_path(line: &[u8]) -> Option<&[u8]>
     ensures { option_map (λ path. path.now) result ≡ path_in line.now }
 {
@@ -52,7 +52,7 @@ pub(crate) fn read_path(line: &[u8]) -> Option<&[u8]>
     }
 }
 
-/// What stands behind either word for a file: some servers' tools print a capital F.
+/// The text after either word for a file: some servers' tools print a capital F.
 fn after_file_word(line: &[u8]) -> Option<&[u8]>
     ensures { option_map (λ rest. rest.now) result ≡ after_file_word line.now }
 {
@@ -62,7 +62,7 @@ fn after_file_word(line: &[u8]) -> Option<&[u8]>
     }
 }
 
-/// What stands behind a word, if the line begins with it.
+/// The text after a word, if the line begins with it.
 pub(crate) fn after_prefix<'t>(word: &[u8], line: &'t [u8]) -> Option<&'t [u8]>
     ensures { option_map (λ rest. rest.now) result ≡ after_prefix word.now line.now }
 {
@@ -72,7 +72,7 @@ pub(crate) fn after_prefix<'t>(word: &[u8], line: &'t [u8]) -> Option<&'t [u8]>
     }
 }
 
-/// The first line of a text, and what stands behind its newline.
+/// The first line of a text, and the text after its newline.
 pub(crate) fn split_line(text: &[u8]) -> (&[u8], &[u8])
     ensures line { result.0.now ≡ first_line text.now }
     ensures rest { result.1.now ≡ after_line text.now }

@@ -1,6 +1,7 @@
 //! Laws of the definitions.
 
-ghost use Rattle.std.specs.Prelude.{◌≡◌, ◌≤◌, ◌+◌, ℕ, List, All, Ok, Err, false, length, map};
+ghost use Rattle.std.specs.Prelude.{◌≡◌, ◌≤◌, ◌+◌, ℕ, List, All, Ok, Err, Some, false, length};
+ghost use Rattle.std.specs.Prelude.{map};
 ghost use Rattle.acl_names.specs.Directory.{Known, NamesReadBack};
 ghost use Rattle.acl_names.specs.Names.{Names};
 ghost use Rattle.acl_names.specs.declared.limits.TheConstants.{MAX_ID};
@@ -18,17 +19,17 @@ ghost use Rattle.acl_listings.specs.Printed.{listing_text, IsPrintable};
 ghost use Rattle.acl_listings.specs.declared.fault.BlockFault.TheVariants.{Acl};
 ghost use Rattle.acl_listings.specs.declared.limits.TheConstants.{MAX_BLOCK};
 
-/// What is handed out of a block says the same file as the block, or is refused for the same, and
-/// its path is the same. There is nothing to run here: a proof cites the contract.
-pub fn handed_blocks_tell_the_same()
+/// The text that the cursor returns for a block has the same file as the block, or the same fault,
+/// and the same path. There is nothing to run here: a proof cites the contract.
+pub fn handed_blocks_report_the_same()
     ensures file { (known : Known) (block : Block)
         → file_of known (as_handed_out block).text ≡ file_of known block.text }
     ensures path { (block : Block) → path_of (as_handed_out block).text ≡ path_of block.text }
 {}
 
 /// Files that are printed as `getfacl` prints them, with the names that a directory has for ids and
-/// with marks of effective permissions, are read again as these files, one block for each. Each
-/// `Directory` tells its names apart. There is nothing to run here: a proof cites the contract.
+/// with marks of effective permissions, are read as these files, one block for each. Each
+/// `Directory` distinguishes its names. There is nothing to run here: a proof cites the contract.
 pub fn printed_files_are_read_again()
     ensures { (known : Known) (files : List FileValue) → NamesReadBack known
         → All (IsPrintable known) files
@@ -37,18 +38,21 @@ pub fn printed_files_are_read_again()
 {}
 
 /// Files that are printed with their ids in decimal are read again as these files, one block for
-/// each, by whatever names: with their default lists, and with NFSv4 lists that have entries. A
-/// block is short enough if its path has at most 60,000 bytes. There is nothing to run here: a
-/// proof cites the contract.
+/// each, by whatever names: with their default lists, and with NFSv4 lists that have entries. The
+/// path of each block is its file's, also where the list is refused. A block is short enough if its
+/// path has at most 60,000 bytes. There is nothing to run here: a proof cites the contract.
 pub fn numbered_files_are_read_again()
     ensures said { (files : List FileValue) → All numbered.IsPrintable files
         → numbered.SaysFiles files (numbered.files_text files) }
+    ensures paths { (files : List FileValue) → All numbered.IsPrintable files
+        → map (λ block. path_of block.text) (blocks_of (numbered.files_text files))
+        ≡ map (λ file. Some file.path) files }
     ensures short { (file : FileValue) → length file.path ≤ 60000
         → file.owner ≤ MAX_ID → file.group ≤ MAX_ID → numbered.ArePrintable file.lists
         → length (numbered.file_text file) ≤ MAX_BLOCK + 2 }
 {}
 
-/// If a block is refused for its entries, those of its list's lines are malformed: so there is a
+/// If a block is refused for its entries, the lines of its list have a malformed one: so there is a
 /// line at fault. There is nothing to run here: a proof cites the contract.
 pub fn refused_entries_stand_in_lines()
     ensures { (names : Names) (text : List ℕ) (fault : AclFault)
@@ -56,9 +60,9 @@ pub fn refused_entries_stand_in_lines()
         → lines_read names (faulty_kind names (list_in text)) (list_lines text) ≡ false }
 {}
 
-/// A block says the same file, with other lists, if a line for each of some NFSv4 entries, with its
-/// id in decimal, stands in the place of its own entries: in the form of nfs4, or in that of
-/// FreeBSD. There is nothing to run here: a proof cites the contract.
+/// If a block's own entries are replaced by lines of NFSv4 entries with decimal ids, in the form of
+/// nfs4 or of FreeBSD, it is read as the same file with these entries. There is nothing to run
+/// here: a proof cites the contract.
 pub fn nfs4_blocks_are_read_again()
     ensures nfs4 { AreReadAgain short_ace }
     ensures freebsd { (places : Places) → AreReadAgain (short_entry places) }

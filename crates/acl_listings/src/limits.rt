@@ -1,11 +1,11 @@
-//! How long a block may be, and which bytes part paths and tell flags.
+//! How long a block may be, and the bytes of paths and flags.
 ghost use Rattle.std.specs.Prelude.{◌≡◌};
 ghost use Rattle.acl_listings.specs.declared.file_flags.TheConstants.{ID_LETTER, STICKY_LETTER};
 ghost use Rattle.acl_listings.specs.declared.limits.TheConstants.{MAX_BLOCK};
 ghost use Rattle.acl_listings.specs.declared.way.TheConstants.{SLASH};
 ghost use Rattle.acl_listings.specs.declared.window.TheConstants.{CAPACITY};
 
-/// The most bytes of a block, without the newline of its last line.
+/// How many bytes a block may have, without the newline of its last line.
 pub const MAX_BLOCK: usize = 65_536;
 
 /// The limits as numbers. There is nothing to run here: a proof cites the contract.
@@ -14,7 +14,7 @@ pub fn limits_in_numbers()
     ensures window { CAPACITY ≡ 131072 }
 {}
 
-/// What stands between the steps of a path, `/`, and the letters of a file's flags, `s` and `t`, as
+/// The separator of a path's steps, `/`, and the letters of a file's flags, `s` and `t`, as
 /// numbers. There is nothing to run here: a proof cites the contract.
 pub fn bytes_in_numbers()
     ensures slash { SLASH ≡ 47 }

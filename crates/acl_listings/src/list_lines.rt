@@ -1,4 +1,4 @@
-//! Which lines of a block spell which of its lists.
+//! Which lines of a block belong to which of its lists.
 
 ghost use Rattle.std.specs.Prelude.{◌≡◌, ◌++◌, IfOk, OnOk, option_map};
 ghost use Rattle.std.specs.List.{list_any};
@@ -9,7 +9,7 @@ ghost use Rattle.acl_listings.specs.ListLines.{ended_line, is_default, line_of, 
 use acl_names::Parts;
 use std::alloc::{AllocError, Global};
 
-/// A list that lines of a block spell.
+/// A list of a block.
 #[derive(Clone, Copy, Debug, PartialEq, Eq)]
 pub(crate) enum ListKind {
     Access,
@@ -24,8 +24,8 @@ fn is_default(line: &[u8]) -> bool
     line.starts_with(b"default:")
 }
 
-/// What a line has of a list: of a default list what stands behind its word, and of an access list
-/// every other line.
+/// The part of a line that belongs to the list: of a default list's line the text after `default:`,
+/// and of an access list's the whole line. `None` for a line of another list.
 pub(crate) fn line_of(kind: ListKind, line: &[u8]) -> Option<&[u8]>
     ensures { option_map (λ text. text.now) result ≡ line_of kind line.now }
 {
@@ -42,7 +42,7 @@ pub(crate) fn line_of(kind: ListKind, line: &[u8]) -> Option<&[u8]>
     }
 }
 
-/// Whether some line is one of a default list.
+/// Whether any line is one of a default list.
 pub(crate) fn has_default(list: &[u8]) -> bool
     ensures { result ≡ list_any is_default (parts newline list.now) }
 {
@@ -55,7 +55,7 @@ pub(crate) fn has_default(list: &[u8]) -> bool
     false
 }
 
-/// Appends what the line has of the list, and a newline behind it.
+/// Appends the part of the line that belongs to the list, and a newline after it.
 fn push_line_of(kind: ListKind, line: &[u8], out: &mut Vec<u8>) -> Result<(), AllocError>
     ensures { OnOk result (out.new.items ≡ out.old.items ++ ended_line (line_of kind line.now)) }
 {
@@ -69,7 +69,7 @@ fn push_line_of(kind: ListKind, line: &[u8], out: &mut Vec<u8>) -> Result<(), Al
     }
 }
 
-/// What the lines have of the list.
+/// The parts of the lines that belong to the list, each with a newline.
 pub(crate) fn lines_of(alloc: Global, kind: ListKind, list: &[u8]) -> Result<Vec<u8>, AllocError>
     ensures { IfOk result (λ copy. pieces copy.items ≡ pieces_of kind list.now) }
 {

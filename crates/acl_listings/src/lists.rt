@@ -17,14 +17,13 @@ use std::alloc::Global;
 /// The access control lists of a file.
 #[derive(Debug, Drop)]
 pub enum Lists {
-    /// The list that access is decided by, and the one that a folder hands on to what is made in
-    /// it.
+    /// The list that decides access, and the default list that a folder's content inherits.
     Posix { access: Acl, default: Option<Acl> },
-    /// The list that access is decided by, of which a folder hands on some entries.
+    /// The list that decides access, some entries of which a folder's content inherits.
     Nfs4 { acl: Acl4 },
 }
 
-/// The lists that the lines behind a block's header spell, all in the form of the first entry.
+/// Reads the lists in the lines after a block's header, all in the form of the first entry.
 pub(crate) fn read_lists<N: ResolveNames>(
     alloc: Global,
     list: &[u8],

@@ -1,12 +1,11 @@
-//! Where newlines stand, 64 bytes at a time.
+//! The places of newlines, 64 bytes at a time.
 
 ghost use Rattle.std.specs.Prelude.{◌≡◌, ◌+◌, ◌<◌, ◌≤◌, ℕ, List, drop, length, take};
 ghost use Rattle.acl_listings.specs.Extent.{newline_marks, newlines_in};
 
 use std::simd::prelude::*;
 
-/// Where newlines stand in the 64 bytes from a place on: a bit for each byte, the lowest for the
-/// first.
+/// The newlines among the 64 bytes from a place on: a bit for each byte, the lowest for the first.
 #[inline(always)]
 pub(crate) fn newlines_at(text: &[u8], at: usize) -> u64
     requires { at + 64 ≤ length text.now }
@@ -17,7 +16,7 @@ pub(crate) fn newlines_at(text: &[u8], at: usize) -> u64
         .to_bitmask()
 }
 
-/// How many of the first so many bytes are newlines, by the marks of these bytes.
+/// How many of the first `len` bytes are newlines, by the bits of `newlines_at`.
 #[inline(always)]
 pub(crate) fn count_below(marks: u64, len: usize) -> usize
     requires { len < 64 }

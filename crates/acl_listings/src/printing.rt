@@ -1,4 +1,4 @@
-//! Files as `getfacl -Rnp` and `nfs4_getfacl` print them, with their ids in decimal.
+//! Printing files as `getfacl -Rnp` and `nfs4_getfacl` do, with decimal ids.
 
 ghost use Rattle.std.specs.Prelude.{◌≡◌, ◌≤◌, ◌++◌, ◌∷◌, [], OnOk, decimal};
 ghost use Rattle.acl_names.specs.Bytes.{colon, newline};
@@ -36,7 +36,8 @@ fn push_number(word: &[u8], number: u32, out: &mut Vec<u8>) -> Result<(), AllocE
     out.extend_from_slice(b"\n")
 }
 
-/// Appends the lines of a file, its owner and its group, of which the ids are ids.
+/// Appends the three lines of a header: the file, its owner and its group. Fails only if memory
+/// runs out.
 pub fn push_header(path: &[u8], owner: Uid, group: Gid, out: &mut Vec<u8>) -> Result<(), AllocError>
     ensures text { OnOk result (out.new.items
         ≡ out.old.items ++ header_text path.now owner group) }
@@ -87,7 +88,7 @@ fn push_entry(word: &[u8], entry: &Entry, out: &mut Vec<u8>) -> Result<(), Alloc
     out.extend_from_slice(b"\n")
 }
 
-/// Appends a line for each entry, behind this word.
+/// Appends a line for each entry, with this word before it.
 fn push_entries(word: &[u8], entries: &[Entry], out: &mut Vec<u8>) -> Result<(), AllocError>
     ensures text { OnOk result (out.new.items
         ≡ out.old.items ++ entries_text word.now entries.now) }
@@ -110,7 +111,7 @@ fn push_default(default: &Option<Acl>, out: &mut Vec<u8>) -> Result<(), AllocErr
     }
 }
 
-/// Appends the lines of POSIX lists, which are read again.
+/// Appends the lines of POSIX lists, from which they are read again. Fails only if memory runs out.
 pub fn push_posix(access: &Acl, default: &Option<Acl>, out: &mut Vec<u8>) -> Result<(), AllocError>
     ensures text { OnOk result (out.new.items
         ≡ out.old.items ++ lists_text (lists.Posix access.now default.now)) }
@@ -143,7 +144,8 @@ fn push_aces(aces: &[Ace], out: &mut Vec<u8>) -> Result<(), AllocError>
     Ok(())
 }
 
-/// Appends the lines of an NFSv4 list, which are read again if there is one.
+/// Appends the lines of an NFSv4 list, from which it is read again unless it has no entries. Fails
+/// only if memory runs out.
 pub fn push_nfs4(acl: &Acl4, out: &mut Vec<u8>) -> Result<(), AllocError>
     ensures text { OnOk result (out.new.items
         ≡ out.old.items ++ lists_text (lists.Nfs4 acl.now)) }

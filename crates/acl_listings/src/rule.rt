@@ -1,29 +1,29 @@
-//! Which rule of access control lists a block's entries break.
+//! The rules of access control lists.
 
 ghost use Rattle.std.specs.Prelude.{◌≡◌};
 ghost use Rattle.acl_listings.specs.Rules.{lacks, missing_of};
 
 use acl_posix::{Entry, Tag};
 
-/// The rule of access control lists that a block's entries break.
+/// A rule of access control lists that a block's entries break.
 #[derive(Clone, Copy, Debug, PartialEq, Eq)]
 pub enum Rule {
     /// There is no entry for the owner.
     NoOwner,
-    /// There is none for the file's group.
+    /// There is no entry for the file's group.
     NoGroup,
-    /// There is none for the others.
+    /// There is no entry for the others.
     NoOther,
-    /// Two entries are for one class, one user or one group, or are masks.
+    /// Two entries are for the same class, user or group, or are both masks.
     Twice,
-    /// A user or a group is named, and there is no mask.
+    /// There is an entry for a user or a group by id, and no mask.
     NoMask,
 }
 
 impl Rule {
     ghost use Rattle.acl_listings.specs.Rules.{rule_word};
 
-    /// The word that tells it.
+    /// The word by which commands report it.
     pub fn word(self) -> &'static str
         ensures { result.now ≡ rule_word self }
     {
@@ -49,7 +49,7 @@ fn lacks(entries: &[Entry], tag: &Tag) -> bool
     true
 }
 
-/// The first that is missing of the three entries that every list has.
+/// The first that is missing of the three entries that every list must have.
 pub(crate) fn missing_of(entries: &[Entry]) -> Rule
     ensures { result ≡ missing_of entries.now }
 {

@@ -1,4 +1,4 @@
-//! The bytes of a reader that are still to come, of which the first are at hand.
+//! The bytes of a reader that are still to come, and a buffer of the first of them.
 
 ghost use Rattle.std.specs.Prelude.{◌≡◌, ◌<◌, ◌≤◌, [], false, IsTrue, length, drop, IfOk};
 ghost use Rattle.std.specs.Io.KnownBytes.{IsAtEnd, Keeps};
@@ -11,8 +11,8 @@ use std::alloc::{AllocError, Global};
 use std::io::Read;
 use std::marker::Model;
 
-/// The bytes that are still to come. A contract sees those that are at hand, those that the reader
-/// has left if it tells them, and whether the reader's end was seen.
+/// The bytes of a reader that are still to come. A contract sees those in the buffer, those that
+/// the reader has left if it reports them, and whether the reader ended.
 #[derive(Drop)]
 pub(crate) struct Source<R: Read + Drop> {
     reader: R,
@@ -37,7 +37,7 @@ impl<R: Read + Drop> Model for Source<R> {
 }
 
 impl<R: Read + Drop> Source<R> {
-    /// The bytes of the reader. It takes its buffer here, and no memory later.
+    /// The bytes of the reader. It allocates its buffer here, and nothing later.
     pub(crate) fn new(alloc: Global, reader: R) -> Result<Source<R>, AllocError>
         ensures { IfOk result (λ source. source
             ≡ record { shown = []; left = R.remaining reader; has_ended = false }) }
@@ -49,7 +49,7 @@ impl<R: Read + Drop> Source<R> {
         })
     }
 
-    /// The bytes that are at hand.
+    /// The bytes in the buffer.
     pub(crate) fn shown(&self) -> &[u8]
         ensures value { result.now ≡ self.now.shown }
         ensures within { length self.now.shown ≤ CAPACITY }
@@ -57,7 +57,7 @@ impl<R: Read + Drop> Source<R> {
         self.window.shown()
     }
 
-    /// Whether no more bytes can be read.
+    /// Whether the reader has ended.
     pub(crate) fn has_ended(&self) -> bool
         ensures value { result ≡ self.now.has_ended }
         ensures end { IsTrue result → IsAtEnd self.now.left }
@@ -65,7 +65,7 @@ impl<R: Read + Drop> Source<R> {
         self.has_ended
     }
 
-    /// Takes the first bytes.
+    /// Drops the first bytes.
     pub(crate) fn skip(&mut self, count: usize)
         requires { count ≤ length self.old.shown }
         ensures { self.new ≡ record self.old { shown = drop count self.old.shown } }
@@ -73,7 +73,7 @@ impl<R: Read + Drop> Source<R> {
         self.window.skip(count);
     }
 
-    /// Has more bytes at hand, or sees the end.
+    /// Reads more bytes into the buffer, or finds that the reader has ended.
     pub(crate) fn read(&mut self) -> Result<(), ReadFault>
         requires room { length self.old.shown < CAPACITY }
         requires open { self.old.has_ended ≡ false }

@@ -13,15 +13,15 @@ use crate::source::Source;
 use crate::window::ReadFault;
 use std::io::Read;
 
-/// The number of a line so many lines further on. A listing has fewer than 2^64 of them.
+/// The number of the line that is `lines` further on. A listing has fewer than 2^64 lines.
 pub(crate) fn further(line: u64, lines: u64) -> Result<u64, ReadFault>
     ensures { IfOk result (λ next. next ≡ line + lines) }
 {
     line.checked_add(lines).ok_or(ReadFault::Read)
 }
 
-/// Takes empty lines, of which the first has this number, up to a line with a byte, whose number
-/// this is. `None` if there is none.
+/// Skips empty lines, the first of which has this number. Returns the number of the first line that
+/// isn't empty; `None` if there is none.
 pub(crate) fn skip_empty_lines<R: Read + Drop>(
     source: &mut Source<R>,
     line: u64,
@@ -50,8 +50,8 @@ pub(crate) fn skip_empty_lines<R: Read + Drop>(
     Err(ReadFault::Read)
 }
 
-/// How far the block at the front reaches, whatever follows the bytes at hand; of one that is too
-/// long, how far it does at the least.
+/// The extent of the block at the front, including bytes that aren't buffered yet; of a block that
+/// is too long, at least so much that it is too long.
 pub(crate) fn find_extent<R: Read + Drop>(source: &mut Source<R>) -> Result<Extent, ReadFault>
     requires { BeginsLine source.old.shown }
     ensures bytes { OnOk result (Keeps (bytes_to_come source.old) (bytes_to_come source.new)) }
@@ -71,8 +71,8 @@ pub(crate) fn find_extent<R: Read + Drop>(source: &mut Source<R>) -> Result<Exte
     Err(ReadFault::Read)
 }
 
-/// Takes what is left of a block of which some was taken, up to the end of its last line. The line
-/// that was begun has this number, and the result is that of the last line.
+/// Skips the rest of a block, up to the end of its last line. `line` is the number of the line that
+/// was begun, and the result that of the last line.
 pub(crate) fn skip_rest<R: Read + Drop>(source: &mut Source<R>, line: u64) -> Result<u64, ReadFault>
     ensures { IfOk result (λ last.
         GoesOn (bytes_to_come source.old) (bytes_to_come source.new) line last) }

@@ -1,36 +1,36 @@
-//! Which folders stand above a file, by their paths.
+//! Which folders are parents of a file, by their paths.
 
 ghost use Rattle.std.specs.Prelude.{◌≡◌, ◌∷◌, [], MatchOption};
-ghost use Rattle.acl_listings.specs.Way.{is_absolute, leads, place_below, steps_among};
+ghost use Rattle.acl_listings.specs.Way.{is_above, is_absolute, leads, place_below, steps_among};
 ghost use Rattle.acl_listings.specs.Way.{steps_cmp, steps_of};
 
 use acl_names::Parts;
 use std::cmp::Ordering;
 
-/// What stands between the steps of a path.
+/// The separator of a path's steps.
 const SLASH: u8 = b'/';
 
-/// Where a path leads, seen from the folder of another.
+/// Where a path is, relative to a folder's path.
 #[derive(Clone, Copy, Debug, PartialEq, Eq)]
 pub enum Place {
-    /// Not into the folder.
+    /// Not in the folder.
     Elsewhere,
-    /// To the folder.
+    /// It is the folder.
     Same,
-    /// To what lies in the folder.
+    /// Directly in the folder.
     Inside,
-    /// To what lies further below it.
+    /// Further below the folder.
     Deeper,
 }
 
-/// Whether a part of a path leads somewhere.
+/// Whether a part of a path is a step: neither empty nor `.`.
 fn leads(part: &[u8]) -> bool
     ensures { result ≡ leads part.now }
 {
     !part.is_empty() && part != b".".as_slice()
 }
 
-/// Takes the next step among the parts of a path that are still to come.
+/// Takes the next step of the parts of a path that are still to come.
 fn next_step<'a>(parts: &mut Parts<'a>) -> Option<&'a [u8]>
     ensures { MatchOption result (steps_among parts.old ≡ [])
         (λ step. steps_among parts.old ≡ step.now ∷ steps_among parts.new) }
@@ -50,8 +50,8 @@ fn is_absolute(path: &[u8]) -> bool
     path.starts_with(b"/")
 }
 
-/// Where a path leads, seen from the folder of another. Slashes in a row are one, and a step `.`
-/// leads nowhere.
+/// Where `path` is, relative to the folder `above`. Repeated slashes count as one, and steps `.`
+/// are ignored.
 pub fn place_below(above: &[u8], path: &[u8]) -> Place
     ensures { result ≡ place_below above.now path.now }
 {
@@ -75,7 +75,14 @@ pub fn place_below(above: &[u8], path: &[u8]) -> Place
     }
 }
 
-/// How two paths compare, step by step: what comes before what is in a folder is the folder.
+/// Whether the path is below the folder.
+pub fn is_above(folder: &[u8], path: &[u8]) -> bool
+    ensures { result ≡ is_above folder.now path.now }
+{
+    matches!(place_below(folder, path), Place::Inside | Place::Deeper)
+}
+
+/// Compares two paths step by step: a folder comes before its content.
 pub fn compare_steps(one: &[u8], other: &[u8]) -> Ordering
     ensures { result ≡ steps_cmp (steps_of one.now) (steps_of other.now) }
 {

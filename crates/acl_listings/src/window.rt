@@ -1,4 +1,4 @@
-//! What was read of a reader and isn't taken yet, in a buffer of constant size.
+//! A buffer of constant size with the bytes that were read and not yet taken.
 
 ghost use Rattle.std.specs.Prelude.{◌≡◌, ◌+◌, ◌<◌, ◌≤◌, [], length, drop, take, false, IfOk, OnErr};
 ghost use Rattle.std.specs.Io.KnownBytes.{Consumes, IsAtEnd, Keeps, prepend_known};
@@ -10,22 +10,22 @@ use std::io::{ErrorKind, Read};
 use std::marker::Model;
 use thiserror::Error;
 
-/// Why a listing was read no further.
+/// Why a listing couldn't be read on.
 #[derive(Clone, Copy, Debug, PartialEq, Eq, Error)]
 pub enum ReadFault {
     /// A read failed.
     #[error("a read failed")]
     Read,
-    /// The first bytes of a block that is too long found no room.
+    /// Memory ran out for the first bytes of a block that is too long.
     #[error("memory")]
     Memory,
 }
 
-/// How many bytes the buffer has: those of a block that is just too long with what ends it, and as
-/// many again but for a few.
+/// How many bytes the buffer has: about twice those of a block that is just too long, with what
+/// ends it.
 pub(crate) const CAPACITY: usize = 131_072;
 
-/// The bytes that were read and not taken. A contract sees the list of them.
+/// The bytes that were read and not yet taken. A contract sees the list of them.
 #[derive(Drop)]
 pub(crate) struct Window {
     buffer: Vec<u8>,
@@ -45,7 +45,7 @@ impl Model for Window {
 }
 
 impl Window {
-    /// Nothing is read yet. It takes its buffer here, and no memory later.
+    /// An empty buffer. It is allocated here, and nothing later.
     pub(crate) fn new(alloc: Global) -> Result<Window, AllocError>
         ensures { IfOk result (λ window. window ≡ []) }
     {
@@ -58,7 +58,7 @@ impl Window {
         })
     }
 
-    /// What was read and not taken.
+    /// The bytes that were read and not yet taken.
     pub(crate) fn shown(&self) -> &[u8]
         ensures value { result.now ≡ self.now }
         ensures within { length self.now ≤ CAPACITY }
@@ -66,7 +66,7 @@ impl Window {
         &self.buffer[self.start..self.end]
     }
 
-    /// Takes the first bytes.
+    /// Drops the first bytes.
     pub(crate) fn skip(&mut self, count: usize)
         requires { count ≤ length self.old }
         ensures { self.new ≡ drop count self.old }
@@ -74,8 +74,8 @@ impl Window {
         self.start += count;
     }
 
-    /// Reads more bytes, with one read that isn't interrupted, and tells whether there are any:
-    /// none only if the reader is at its end.
+    /// Reads more bytes, with one read that isn't interrupted. Returns whether there were any;
+    /// `false` means that the reader ended.
     pub(crate) fn fill<R: Read>(&mut self, reader: &mut R) -> Result<bool, ReadFault>
         requires { length self.old < CAPACITY }
         ensures bytes { Keeps (prepend_known self.old (R.remaining reader.old))
@@ -93,7 +93,7 @@ impl Window {
     }
 }
 
-/// Reads behind the first bytes of the buffer, with one read that isn't interrupted.
+/// Reads after the first `len` bytes of the buffer, with one read that isn't interrupted.
 fn read_behind<R: Read>(reader: &mut R, buffer: &mut [u8], len: usize) -> Result<usize, ReadFault>
     requires { len ≤ length buffer.old }
     ensures front { take len buffer.new ≡ take len buffer.old }

@@ -242,10 +242,10 @@ user_shaped known faultless = found_shaped (λ (user : KnownUser). user.name) kn
 pub group_shaped : (known : Known) → fault_of known ≡ None → (name : List ℕ) (group : KnownGroup) → group_named known name ≡ Some group → has_name_shape name ≡ true
 group_shaped known faultless = found_shaped (λ (group : KnownGroup). group.name) known.groups (names_shaped known faultless).1
 
--- if nothing is wrong, names can be told apart
-pub tells_names_apart : (known : Known) → fault_of known ≡ None → NamesReadBack known
+-- if nothing is wrong, names can be distinguished
+pub reports_names_apart : (known : Known) → fault_of known ≡ None → NamesReadBack known
 unfolding first_of_tests
-tells_names_apart known faultless =
+reports_names_apart known faultless =
     let none = none_wrong (is_too_many known) (has_bad_name known) (repeats_name known) (repeats_id known) (has_unknown_group known) faultless in
     let shaped = shapes_right (is_too_many known) (has_bad_name known) (repeats_name known) (repeats_id known) (has_unknown_group known) faultless in
     let names_both = or_parts (repeats bytes_eq (λ (user : KnownUser). user.name) known.users || repeats bytes_eq (λ (group : KnownGroup). group.name) known.groups)

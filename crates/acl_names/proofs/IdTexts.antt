@@ -54,15 +54,19 @@ name_no_decimal (c ∷ cs) shaped =
 pub written_name : (name : List ℕ) → has_name_shape name ≡ true → written_id name ≡ Some (Name name)
 written_name name shaped = ap (λ number. number_or_name number name) (name_no_decimal name shaped) ∙ ap (λ t. cond t (Some (Name name)) None) shaped
 
-pub written_decimal : (n : ℕ) → n ≤ MAX_ID → written_id (decimal n) ≡ Some (Number n)
-written_decimal n small =
+-- a decimal is read as its id
+pub decimal_read : (n : ℕ) → n ≤ MAX_ID → decimal_value (decimal n) ≡ Some n
+decimal_read n small =
     let numeral : IsNumeral 10 (decimal n) × (digits_value 10 (decimal n) ≡ n) = decimal_is_IsNumeral n (omega arith) in
     let digits : list_all is_ascii_digit (decimal n) ≡ true = digits_model.from (decimal n) numeral.0.1 in
     let some : nat_le 1 (length (decimal n)) ≡ true = le-leb 1 (length (decimal n)) numeral.0.0 in
     let few : nat_le (length (decimal n)) MAX_DIGITS ≡ true = le-leb (length (decimal n)) MAX_DIGITS (length-decimal-le 10 n (omega arith) (omega arith) (omega arith)) in
     let low : nat_le (digits_value 10 (decimal n)) MAX_ID ≡ true = le-leb (digits_value 10 (decimal n)) MAX_ID (rw numeral.1 small) in
     let is : is_decimal (decimal n) ≡ true = rw (digits, some, few, low) refl in
-    ap (λ number. number_or_name number (decimal n)) (ap (λ t. cond t (Some (digits_value 10 (decimal n))) None) is ∙ ap Some numeral.1)
+    ap (λ t. cond t (Some (digits_value 10 (decimal n))) None) is ∙ ap Some numeral.1
+
+pub written_decimal : (n : ℕ) → n ≤ MAX_ID → written_id (decimal n) ≡ Some (Number n)
+written_decimal n small = ap (λ number. number_or_name number (decimal n)) (decimal_read n small)
 
 -- what is printed of an id writes the id
 pub id_again : (id_of : List ℕ → Option ℕ) (name_of : ℕ → Option (List ℕ)) (id : ℕ) → ReadBack id_of name_of → id ≤ MAX_ID

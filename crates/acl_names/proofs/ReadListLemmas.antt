@@ -124,7 +124,7 @@ module _ {A F G : Type 0} (value_of : List ℕ → Result A F) (read : List ℕ 
         → (list : List A) → Spells value_of most text list → at_most_read too_many most read (pieces text) ≡ Ok list
     read-spelt as_ok list spelt = at_most_read-all read too_many most (pieces text) list (Say-read as_ok _ _ spelt.said) spelt.within
 
-    -- the fault of the leftmost piece is told
+    -- the fault of the leftmost piece is reported
     pub read-fault : ((piece : List ℕ) (value : A) → value_of piece ≡ Ok value → read piece ≡ Ok value)
         → (fault : F) (becomes : G) → IsFaultOf value_of most text (list.Piece fault)
         → ((piece : List ℕ) → value_of piece ≡ Err fault → read piece ≡ Err becomes) → at_most_read too_many most read (pieces text) ≡ Err becomes
@@ -147,22 +147,22 @@ spelt-read value_of read too_many most text from_ok list is =
     let said = at_most_read-said read too_many most (pieces text) list is in
     record { said = Say-read read value_of from_ok (pieces text) list said.0; within = said.1 }
 
--- A reader whose faults are told as others.
+-- A reader whose faults are reported as others.
 module _ {A F G : Type 0} (becomes : F → G) (read : List ℕ → Result A F) where
-  abbrev told : List ℕ → Result A G
-  told text = map_fault becomes (read text)
+  abbrev reported : List ℕ → Result A G
+  reported text = map_fault becomes (read text)
 
-  each_read-map_fault : (texts : List (List ℕ)) → map_fault becomes (each_read read texts) ≡ each_read told texts
+  each_read-map_fault : (texts : List (List ℕ)) → map_fault becomes (each_read read texts) ≡ each_read reported texts
   each_read-map_fault [] = refl
   each_read-map_fault (text ∷ more) = by_first (read text) (each_read-map_fault more)
     where
-      by_first : (first : Result A F) → map_fault becomes (each_read read more) ≡ each_read told more
-          → map_fault becomes (first >>= (λ x. each_read read more >>= (λ rest. Ok (x ∷ rest)))) ≡ map_fault becomes first >>= (λ x. each_read told more >>= (λ rest. Ok (x ∷ rest)))
+      by_first : (first : Result A F) → map_fault becomes (each_read read more) ≡ each_read reported more
+          → map_fault becomes (first >>= (λ x. each_read read more >>= (λ rest. Ok (x ∷ rest)))) ≡ map_fault becomes first >>= (λ x. each_read reported more >>= (λ rest. Ok (x ∷ rest)))
       by_first (Ok x) rest = map_fault-bind becomes (each_read read more) (λ rest. Ok (x ∷ rest)) ∙ ap (λ all. all >>= (λ rest. Ok (x ∷ rest))) rest
       by_first (Err fault) rest = refl
 
   pub at_most_read-map_fault : (too_many : F) (most : ℕ) (texts : List (List ℕ))
-      → map_fault becomes (at_most_read too_many most read texts) ≡ at_most_read (becomes too_many) most told texts
+      → map_fault becomes (at_most_read too_many most read texts) ≡ at_most_read (becomes too_many) most reported texts
   unfolding at_most_read
   at_most_read-map_fault too_many most texts =
       by_all (each_read read (take most texts)) (ltb most (length texts))

@@ -20,12 +20,12 @@ pub given : {A F : Type 0} (fault : F) (o : Option A) (x : A) → or_fault fault
 given fault (Some y) x e = cc
 given fault None x e = cc
 
--- what is read is read, whatever its fault is told as
+-- what is read is read, whatever its fault is reported as
 pub map_fault-ok : {A F G : Type 0} (becomes : F → G) (r : Result A F) (x : A) → map_fault becomes r ≡ Ok x → r ≡ Ok x
 map_fault-ok becomes (Ok y) x e = cc
 map_fault-ok becomes (Err fault) x e = cc
 
--- a fault of two steps is told as one of either
+-- a fault of two steps is reported as one of either
 pub map_fault-bind : {A B F G : Type 0} (becomes : F → G) (r : Result A F) (f : A → Result B F)
     → map_fault becomes (r >>= f) ≡ map_fault becomes r >>= (λ x. map_fault becomes (f x))
 map_fault-bind becomes (Ok x) f = refl

@@ -1,10 +1,10 @@
--- Lists in which no key stands twice, and lists that ascend by their keys.
+-- Lists in which no key occurs twice, and lists that ascend by their keys.
 use Rattle.std.specs.Prelude.{◌≡◌, Bool, nat_lt, List}
 use Rattle.std.specs.List.{AllPairs, count_by, list_any}
 use Rattle.std.specs.declared.cmp.Ordering.{Ordering}
 use Rattle.std.specs.declared.cmp.Ordering.TheVariants.{Less}
 
--- some member's key stands more than once; `same` tells whether two keys are the same
+-- some members have the same key; `same` is whether two keys are the same
 abbrev pub repeats : {X K : Type 0} → (K → K → Bool) → (X → K) → List X → Bool
 repeats same key members = list_any (λ one. nat_lt 1
     (count_by (λ other. same (key other) (key one)) members)) members

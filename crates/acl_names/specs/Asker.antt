@@ -1,4 +1,4 @@
--- Who asks for access and is in at most two groups.
+-- A requester who is in at most two groups.
 use Rattle.std.specs.Prelude.{◌++◌, option_to_list}
 use Rattle.acl_names.specs.Requester.{Identity}
 use Rattle.acl_names.specs.declared.directory.asker.Asker.{Asker}

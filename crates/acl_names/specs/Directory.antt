@@ -1,4 +1,4 @@
--- The users and groups that there are, what is asked of them, and which lists make a directory.
+-- Users and groups, how they are looked up, and which lists make a directory.
 use Rattle.std.specs.Prelude.{◌≡◌, ℕ, Bool, true, ◌==◌, ◌||◌, not, nat_lt, nat_eq, List, [], ◌∷◌}
 use Rattle.std.specs.Prelude.{length, Option, Some, None, is_none, map, option_map, if◌then◌else◌}
 use Rattle.std.specs.Prelude.{bytes_eq}
@@ -27,13 +27,13 @@ pub record KnownGroup : Type 0 where
   pub name : List ℕ
   pub gid : ℕ
 
--- what a directory knows
+-- the content of a directory
 pub record Known : Type 0 where
   pub domain : List ℕ
   pub users : List KnownUser
   pub groups : List KnownGroup
 
--- the user and the group of this name, and of this id
+-- the user and the group with this name, and with this id
 abbrev pub user_named : Known → List ℕ → Option KnownUser
 user_named known name = find (λ user. bytes_eq user.name name) known.users
 
@@ -71,11 +71,11 @@ first_of (first ∷ more) = Some first
 abbrev pub first_group : Known → ℕ → Option ℕ
 first_group known uid = option_and_then (gid_of known) (first_of (groups_of known uid))
 
--- a user as one who asks: with the gids of the groups
+-- a user as a requester: with the gids of the groups
 abbrev pub as_requester : Known → KnownUser → Identity
 as_requester known user = record { uid = user.uid; gids = filter_map (gid_of known) user.groups }
 
--- the user with this uid as one who asks
+-- the user with this uid as a requester
 abbrev pub requester_of : Known → ℕ → Identity
 requester_of known uid = record {
   uid = uid;
@@ -93,7 +93,7 @@ has_bad_name known = not (has_domain_shape known.domain)
     || list_any (λ user. not (has_name_shape user.name)) known.users
     || list_any (λ group. not (has_name_shape group.name)) known.groups
 
--- two users or two groups have one name, or a user is twice in one group
+-- two users or two groups have the same name, or a user's groups have one twice
 abbrev pub repeats_name : Known → Bool
 repeats_name known = repeats bytes_eq (λ user. user.name) known.users
     || repeats bytes_eq (λ group. group.name) known.groups
@@ -103,7 +103,7 @@ abbrev pub repeats_id : Known → Bool
 repeats_id known = repeats nat_eq (λ user. user.uid) known.users
     || repeats nat_eq (λ group. group.gid) known.groups
 
--- a user is in a group that there isn't
+-- a user is in a group that isn't listed
 abbrev pub has_unknown_group : Known → Bool
 has_unknown_group known = list_any (λ user. list_any (λ name. is_none (group_named known name))
     user.groups) known.users
@@ -123,14 +123,14 @@ abbrev pub IsRefusedFor : Known → SetupFault → Type 0
 IsRefusedFor known Memory = fault_of known ≡ None
 IsRefusedFor known fault = fault_of known ≡ Some fault
 
--- Each name that is printed for an id reads as that id, and the domain in which it stands has its
+-- Each name that is printed for an id reads as that id, and the domain of these names has its
 -- shape.
 pub record NamesReadBack (known : Known) : Type 0 where
   pub domain : has_domain_shape known.domain ≡ true
   pub users : ReadBack (uid_of known) (user_name known)
   pub groups : ReadBack (gid_of known) (group_name known)
 
--- Each look-up of one answers as that of the other.
+-- Each look-up gives the same for both.
 pub record AnswersAs (known parts : Known) : Type 0 where
   pub domain : known.domain ≡ parts.domain
   pub uids : (name : List ℕ) → uid_of known name ≡ uid_of parts name
@@ -140,8 +140,8 @@ pub record AnswersAs (known parts : Known) : Type 0 where
   pub first_groups : (uid : ℕ) → first_group known uid ≡ first_group parts uid
   pub requesters : (uid : ℕ) → requester_of known uid ≡ requester_of parts uid
 
--- what every directory is: nothing is wrong with it, its members ascend by their names, their
--- places are found by their ids, and each user is ready made as one who asks
+-- what holds for every directory: it has no fault, its members ascend by their names, their places
+-- are found by their ids, and each user is kept as a requester
 pub record IsDirectory (known : Known) (user_places group_places : List (ℕ × ℕ))
     (requesters : List Identity) : Type 0 where
   pub faultless : fault_of known ≡ None

@@ -5,15 +5,15 @@ use Rattle.std.specs.Prelude.{if◌then◌else◌}
 use Rattle.std.specs.List.{AllByRecursion, list_all, list_any}
 use Rattle.acl_names.specs.declared.text.letters.Letter.{Letter}
 
--- how often a byte stands in a text
+-- how often a text has a byte
 abbrev pub occurrences : ℕ → List ℕ → ℕ
 occurrences byte text = count_by (λ x. x == byte) text
 
--- the byte stands in the text
+-- the text has the byte
 abbrev pub occurs : ℕ → List ℕ → Bool
 occurs byte text = nat_le 1 (occurrences byte text)
 
--- the byte stands in the text twice, or more often
+-- the text has the byte twice, or more often
 abbrev pub repeats : ℕ → List ℕ → Bool
 repeats byte text = nat_le 2 (occurrences byte text)
 
@@ -30,11 +30,11 @@ is_letters_text table text = list_all (is_letter_of table) text
 abbrev pub bits_of_rows : List Letter → ℕ
 bits_of_rows rows = fold (λ bits row. bit_or bits row.bit) 0 rows
 
--- the rows whose letters stand in the text
+-- the rows whose letters the text has
 abbrev pub rows_in : List Letter → List ℕ → List Letter
 rows_in table text = filter (λ row. occurs row.letter text) table
 
--- the bits whose letters stand in the text
+-- the bits whose letters the text has
 unfoldable pub letters_of : List Letter → List ℕ → Option ℕ
 letters_of table text = if is_letters_text table text then Some (bits_of_rows (rows_in table text))
     else None

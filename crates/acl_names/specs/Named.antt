@@ -1,4 +1,4 @@
--- Lists of what has a name and an id.
+-- Lists of members with a name and an id.
 use Rattle.std.specs.Prelude.{◌≡◌, ℕ, ◌==◌, List, find, map, option_map}
 use Rattle.std.specs.List.{enumerate_from, position_from}
 use Rattle.std.specs.Ordering.{nat_cmp}
@@ -8,7 +8,7 @@ use Rattle.acl_names.specs.Ascending.{IsAscending}
 abbrev pub ids_with_places : {X : Type 0} → (X → ℕ) → List X → List (ℕ × ℕ)
 ids_with_places id_of members = map (λ entry. (id_of entry.1, entry.0)) (enumerate_from 0 members)
 
--- the index, which ascends, has for each id the place of the first member with it
+-- the index ascends, and has for each id the place of the first member with it
 pub record IsIndexOf {X : Type 0} (id_of : X → ℕ) (members : List X) (index : List (ℕ × ℕ)) : Type 0
   where
     pub ascends : IsAscending nat_cmp (λ entry. entry.0) index

@@ -1,4 +1,4 @@
--- Pieces that stand in a text plainly, with no blank and no comment.
+-- Pieces in the plain form: without blanks and comments.
 use Rattle.std.specs.Prelude.{◌≡◌, ℕ, ◌<◌, Bool, true, not, ◌&&◌, ◌||◌, ◌==◌, List, ◌∷◌, ◌++◌}
 use Rattle.std.specs.Prelude.{length, Some, Result, Ok, All}
 use Rattle.acl_names.specs.Bytes.{newline, tab, space, hash, comma, colon}
@@ -13,7 +13,7 @@ is_plain byte = not (is_blank byte) && (not (byte == newline)
 abbrev pub IsPlain : List ℕ → Type 0
 IsPlain text = All (λ byte. is_plain byte ≡ true) text
 
--- a byte that stands in a plain piece's field
+-- a byte in a field of a plain piece
 abbrev pub is_field_byte : ℕ → Bool
 is_field_byte byte = is_plain byte && not (byte == colon)
 
@@ -25,7 +25,7 @@ ends_field byte = (byte == space) || (byte == tab) || (byte == colon) || (byte =
 abbrev pub IsField : List ℕ → Type 0
 IsField text = All (λ byte. is_field_byte byte ≡ true) text
 
--- the text begins with a plain piece that says the value, and this is the rest of it
+-- the text begins with a plain piece that means the value, and this is the rest of it
 pub record IsFront {A F : Type 0} (value_of : List ℕ → Result A F) (text : List ℕ) (value : A)
     (rest : List ℕ) : Type 0 where
   pub piece : List ℕ

@@ -1,9 +1,9 @@
--- What a function does that puts a text behind what is there.
+-- What a function does that appends a text.
 use Rattle.std.specs.Prelude.{◌≡◌, ◌≤◌, ◌<◌, ◌+◌, ◌++◌, ℕ, List, Vec, Result, length, take}
 use Rattle.std.specs.Prelude.{vec_len, vec_capacity, OnOk, OnErr}
 
 module _ {T E Z : Type 0} (bytes : List ℕ) (result : Result T E) (old new : Vec ℕ Z) where
-  -- the text was put behind what was there; if memory ran out, that still stands in front
+  -- the text was appended; if memory ran out, what was there is still in front
   pub record Pushes : Type 0 where
     pub text : OnOk result (new.items ≡ old.items ++ bytes)
     pub kept : take (length old.items) new.items ≡ old.items

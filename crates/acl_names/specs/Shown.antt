@@ -1,4 +1,4 @@
--- How bytes are shown that may be no text.
+-- Showing bytes that may not be text.
 use Rattle.std.specs.Prelude.{ℕ, Bool, ◌+◌, ◌/◌, ◌%◌, ◌&&◌, nat_le, List, [], ◌∷◌, take}
 use Rattle.std.specs.Prelude.{if◌then◌else◌}
 use Rattle.std.specs.List.{flat_map}

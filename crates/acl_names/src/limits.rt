@@ -1,36 +1,36 @@
-//! How much a directory may hold, how long its names may be, and how much is shown of a line.
+//! Limits of directories and names, and how many bytes of a line are shown.
 ghost use Rattle.std.specs.Prelude.{◌≡◌};
 ghost use Rattle.acl_names.specs.declared.limits.TheConstants.{MAX_USERS, MAX_GROUPS};
 ghost use Rattle.acl_names.specs.declared.limits.TheConstants.{MAX_GROUPS_OF_USER, MAX_NAME_LEN};
 ghost use Rattle.acl_names.specs.declared.limits.TheConstants.{MAX_DOMAIN_LEN, MAX_ID, MAX_DIGITS};
 ghost use Rattle.acl_names.specs.declared.limits.TheConstants.{MAX_SHOWN, NOBODY};
 
-/// The most users of a directory.
+/// How many users a directory may have.
 pub const MAX_USERS: usize = 1024;
 
-/// The most groups of a directory.
+/// How many groups a directory may have.
 pub const MAX_GROUPS: usize = 1024;
 
-/// The most groups of a user.
+/// How many groups a user may be in.
 pub const MAX_GROUPS_OF_USER: usize = 32;
 
-/// The most bytes of a user's or group's name.
+/// How many bytes a user's or group's name may have.
 pub const MAX_NAME_LEN: usize = 32;
 
-/// The most bytes of a domain.
+/// How many bytes a domain may have.
 pub const MAX_DOMAIN_LEN: usize = 255;
 
-/// The greatest uid or gid. The number above it means "no id" to `chown`, and is nobody's.
+/// The greatest uid or gid. The next number means "no id" to `chown`, and no user has it.
 pub const MAX_ID: u32 = 4_294_967_294;
 
-/// The most digits of an id.
+/// How many digits an id may have.
 pub const MAX_DIGITS: usize = 10;
 
-/// The uid that systems give to nobody: if someone is wanted whom no list names, the search begins
+/// The uid that systems give to the user `nobody`. A search for a uid that no list names begins
 /// here.
 pub const NOBODY: u32 = 65534;
 
-/// The most bytes of a line that are shown.
+/// How many bytes of a line are shown at most.
 pub const MAX_SHOWN: usize = 200;
 
 /// The limits as numbers. There is nothing to run here: a proof cites the contract.

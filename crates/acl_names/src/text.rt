@@ -1,4 +1,4 @@
-//! How every list text of the service is cut into pieces, and what its readers and printers share.
+//! How texts of lists are cut into pieces, and what their readers and printers share.
 
 mod blanks;
 mod bytes;

@@ -101,7 +101,7 @@ some_only a b apart none = apart (same_bits a b (λ k. same (has a k) (has b k) 
     same true false e = absurd (true≢false e)
     same false true e = absurd (true≢false e)
 
--- ---- what a search for a difference tells
+-- ---- what a search for a difference reports
 
 pub match_then : {X : Type 0} (r : Option X) (A B : Type 0) (Q : X → Type 0) → MatchOption r A Q → (A → B) → MatchOption r B Q
 match_then None A B Q is then = then is
@@ -113,9 +113,9 @@ none_exactly None A B Q is then contrary = (λ e. then is, λ b. refl)
 none_exactly (Some x) A B Q is then contrary = (λ e. absurd cc, λ b. absurd (contrary x is b))
 
 -- if there is a difference, not all is decided alike
-pub difference_tells : (before after : Decider) (bits : ℕ) (difference : Difference)
+pub difference_reports : (before after : Decider) (bits : ℕ) (difference : Difference)
     → IsDifference before after bits difference → DecideAlike before after bits → ⊥
-difference_tells before after bits difference is alike =
+difference_reports before after bits difference is alike =
     is.some
     (ap₂ (λ a b. a ∪ b)
     (no_bits (mask_bits difference.lost) (λ bit. is.lost bit ∙ none (has bits bit) _ _ (alike (identity_of difference.asker) bit)))

@@ -1,4 +1,4 @@
--- Why the askers of all pairs of entries tell whether two lists decide alike for everyone.
+-- Why the askers of all pairs of entries report whether two lists decide alike for everyone.
 use Rattle.std.proofs.Common.{◌≡◌, ◌≤◌, ◌==◌, ℕ, Bool, true, false, cond, ◌&&◌, ◌||◌, refl, sym, ap, ap₂}
 use Rattle.std.proofs.Common.{subst, ◌∙◌, ◌⊎◌, inl, inr, List, [], ◌∷◌, ◌++◌, Option, Some, None, length}
 use Rattle.std.proofs.Common.{arith, find, option_map, option_to_list, unwrap_or}
@@ -259,7 +259,7 @@ module _ (first second : List Nfsace4) (owners other_owners : Owners) (requester
 abbrev pub OfEither : Identity → ℕ → (Identity → Type 0) → Identity → Type 0
 OfEither requester stranger P asker = (requester.uid ≡ asker.uid) ⊎ (asker.uid ≡ stranger) → P asker
 
--- of the askers of pairs of entries those with the uid of a requester, or of a stranger, tell whether that one is decided alike
+-- of the askers of pairs of entries those with the uid of a requester, or of a stranger, report whether that one is decided alike
 pub pairs_suffice_for : (first second : List Nfsace4) (owners other_owners : Owners) (bits : ℕ) (requester : Identity) (stranger : ℕ)
     → IsStranger (λ (ace : Nfsace4). ace.who) owners.owner first stranger → IsStranger (λ (ace : Nfsace4). ace.who) other_owners.owner second stranger
     → AsksPairs (λ (ace : Nfsace4). ace.who) first second owners other_owners stranger (OfEither requester stranger (AlikeFor first second owners other_owners bits))

@@ -143,10 +143,10 @@ module _ (table : List Letter) (front : List ℕ) (byte : ℕ) where
   stands_apart : BitsDiffer table → list_any (λ x. x == byte) front ≡ false → bit_and (bits_of_rows (rows_in table front)) bit ≡ 0
   stands_apart differ absent =
       no_bits _ (λ k. has-and (bits_of_rows (rows_in table front)) bit k
-      ∙ apart (λ row. occurs row.letter front) (own byte) tells table differ k)
+      ∙ apart (λ row. occurs row.letter front) (own byte) reports table differ k)
     where
-      tells : (row : Letter) → occurs row.letter front ≡ true → own byte row ≡ false
-      tells row stands = elim (cases_Bool (own byte row)) [
+      reports : (row : Letter) → occurs row.letter front ≡ true → own byte row ≡ false
+      reports row stands = elim (cases_Bool (own byte row)) [
         | inl same ↦ absurd (true≢false (sym stands ∙ ap (λ l. occurs l front) (is_own byte row same) ∙ occurs_is byte front ∙ absent))
         | inr other ↦ other
       ]

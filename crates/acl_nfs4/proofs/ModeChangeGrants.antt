@@ -310,7 +310,7 @@ module _ (applies : Who → Bool) (bit : ℕ) where
 
 -- ---- the law
 
--- no named who is among those by whom a mode is told
+-- no named who is among those by whom a mode is reported
 names-none : (applies : Who → Bool) → ((who : Who) → is_special who ≡ false → applies who ≡ false) → (aces : List Nfsace4) → names_any applies aces ≡ false
 names-none applies none aces = list_any-none (λ ace. (decides ace && not (is_special ace.who)) && applies ace.who) (λ ace. each (decides ace) ace.who (is_special ace.who) refl) aces
   where

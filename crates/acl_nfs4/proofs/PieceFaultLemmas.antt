@@ -25,7 +25,7 @@ use Rattle.acl_nfs4.specs.declared.who.Who.TheVariants as one
 use Rattle.acl_nfs4.proofs.ReadLemmas.{Shaped, Parts, parts_of, shaped}
 use Rattle.acl_nfs4.proofs.ShapeLemmas.{name_says, ace_of_parts, value_of_written}
 
--- ---- the faults are told apart
+-- ---- the faults differ
 
 abbrev IsSyntax : PieceFault → Type 0
 IsSyntax Syntax = Unit {0}
@@ -214,7 +214,7 @@ who_somewhere known is_group written lost (name ∷ (byte ∷ bytes) ∷ []) e =
 who_somewhere known is_group written lost (name ∷ [] ∷ more ∷ rest) e = absurd (cc)
 who_somewhere known is_group written lost (name ∷ (byte ∷ bytes) ∷ more ∷ rest) e = absurd (cc)
 
--- a look-up that tells the name to be unknown finds nobody
+-- a look-up that reports the name to be unknown finds nobody
 is_lost : (found : Option Who) (ace_for : Who → Nfsace4) → (or_fault UnknownName found >>= (λ who. refuse_idle (ace_for who))) ≡ Err UnknownName → found ≡ None
 is_lost None ace_for e = refl
 is_lost (Some who) ace_for e = absurd (effect_fault (ace_for who) UnknownName unknown_not_idle e)

@@ -278,11 +278,11 @@ module _ (known : Known) (apart : NamesReadBack known) where
       go : (name : Option (List ℕ)) → name_of id ≡ name → ReadsAs known (named_text name known.domain id) is_group (tag id)
       go None e = decimal_again known id_of is_group tag id small looks_up
       go (Some name) e =
-          let told = back id name e in
+          let reported = back id name e in
           record {
             written = form.At name known.domain;
-            written_is = ap who_of_parts (parts_at name known.domain told.0 apart.domain) ∙ at_again name known.domain told.0 apart.domain;
-            who_is = ap (λ b. cond b (who_with_id known is_group (Name name)) None) same_domain ∙ looks_up (Name name) ∙ ap (option_map tag) told.1;
+            written_is = ap who_of_parts (parts_at name known.domain reported.0 apart.domain) ∙ at_again name known.domain reported.0 apart.domain;
+            who_is = ap (λ b. cond b (who_with_id known is_group (Name name)) None) same_domain ∙ looks_up (Name name) ∙ ap (option_map tag) reported.1;
           }
 
   who_again : (who : Who) → HasId who → ReadsAs known (who_text known who) (is_named_group who) who

@@ -1,4 +1,4 @@
--- Whos that are told at one look: a decimal, and a special identifier.
+-- Whos that are reported at one look: a decimal, and a special identifier.
 use Rattle.std.proofs.Common.{◌≡◌, ℕ, Bool, true, false, cond, ◌&&◌, List, [], ◌∷◌, ◌++◌, length, nat_le}
 use Rattle.std.proofs.Common.{Some, None, option_map, refl, sym, ap, subst, ◌∙◌, codes, ◌≤◌, ◌-◌, suc, take}
 use Rattle.std.proofs.Common.{get_or, arith, bytes_eq, take_all, take-suc}

@@ -10,7 +10,7 @@ use Rattle.acl_nfs4.specs.declared.ace.AceType.{AceType}
 use Rattle.acl_nfs4.specs.declared.ace.AceType.TheVariants.{Allow, Deny, Audit, Alarm}
 use Rattle.acl_nfs4.specs.declared.who.Who.{Who}
 
--- what an entry says: the standard's nfsace4
+-- the content of an entry: the standard's nfsace4
 pub record Nfsace4 : Type 0 where
   pub kind : AceType
   pub flags : ℕ
@@ -36,11 +36,11 @@ pub record IsAce (ace : Nfsace4) : Type 0 where
   pub known_mask : ace.mask ∩ all_masks ≡ ace.mask
   pub group_flag : has ace.flags identifier_group ≡ is_named_group ace.who
 
--- the flags, with the group flag if the who is a named group, and without it elsewhere
+-- the flags, with the group flag if the who is a named group, and without it otherwise
 abbrev pub flags_for : Who → ℕ → ℕ
 flags_for who flags = without flags (2 ^ identifier_group) ∪ flags_of_who who
 
--- the entry of these parts, less the bits without a name
+-- the entry of these parts, without bits that have no name
 abbrev pub ace_of : AceType → ℕ → Who → ℕ → Nfsace4
 ace_of kind flags who mask = record {
   kind = kind;
@@ -49,15 +49,15 @@ ace_of kind flags who mask = record {
   mask = mask ∩ all_masks;
 }
 
--- whether the entry allows or denies, and not only what is made below
+-- whether the entry allows or denies something on the file itself: it isn't inherit-only
 unfoldable pub decides : Nfsace4 → Bool
 decides ace = (is_allow ace.kind || is_deny ace.kind) && not (has ace.flags inherit_only)
 
--- whether something made below inherits the entry
+-- whether new files or directories inherit the entry
 abbrev pub is_inheritable : Nfsace4 → Bool
 is_inheritable ace = has ace.flags file_inherit || has ace.flags directory_inherit
 
--- whether the entry has an effect neither where it stands nor below
+-- whether the entry has no effect, neither on the file itself nor on what inherits it
 abbrev pub is_idle : Nfsace4 → Bool
 is_idle ace = has ace.flags inherit_only && not (is_inheritable ace)
 

@@ -19,12 +19,12 @@ WritesName known text name =
     (has_name_shape name ≡ true) × ((text ≡ name)
     ⊎ ((text ≡ name ++ at_sign ∷ known.domain) × (has_domain_shape known.domain ≡ true)))
 
--- a decimal of this id, or the name of the one who has it
+-- a decimal of this id, or the name of the user or group that has it
 abbrev pub WritesId : Known → (List ℕ → Option ℕ) → List ℕ → ℕ → Type 0
 WritesId known id_of text id = (decimal_value text ≡ Some id)
     ⊎ ((name : List ℕ) × WritesName known text name × (id_of name ≡ Some id))
 
--- how each who is written: a name or a decimal is a group's if the flag g stands, and else a user's
+-- how each who is written: a name or a decimal is a group's if the flags have g, and else a user's
 abbrev pub IsWho : Known → Bool → List ℕ → Who → Type 0
 IsWho known is_group text Owner = text ≡ codes "OWNER@"
 IsWho known is_group text Group = text ≡ codes "GROUP@"
@@ -42,11 +42,11 @@ pub record WritesAce (known : Known) (piece : List ℕ) (ace : Nfsace4) : Type 0
   pub flags_are : letters_of flag_table fields.flags ≡ Some flags
   pub who_is : IsWho known (has flags identifier_group) fields.who ace.who
   pub mask_is : letters_of mask_table fields.letters ≡ Some ace.mask
-  -- the flag g is kept with a named group, and left out elsewhere
+  -- the flag g is kept with a named group, and dropped otherwise
   pub flags_kept : ace.flags ≡ flags_for ace.who flags
 
--- the piece has the shape of an entry, and this entry is its value: it has an effect where it
--- stands or below
+-- the piece has the shape of an entry, and this entry is its value: it has an effect on the file
+-- itself or on what inherits it
 pub record HasShape (known : Known) (piece : List ℕ) (ace : Nfsace4) : Type 0 where
   pub written : WritesAce known piece ace
   pub has_effect : is_idle ace ≡ false

@@ -30,7 +30,7 @@ as_fields (kind ∷ flags ∷ who ∷ letters ∷ []) =
     Some (record { kind = kind; flags = flags; who = who; letters = letters })
 as_fields _ = None
 
--- four, which colons separate, each trimmed
+-- four fields, separated by colons, each trimmed
 abbrev pub fields_of : List ℕ → Option AceFields
 fields_of piece = as_fields (trimmed_parts colon piece)
 
@@ -62,7 +62,7 @@ abbrev pub name_at : Option Written → List ℕ → Option WrittenWho
 name_at (Some (Name name)) domain = if has_domain_shape domain then Some (At name domain) else None
 name_at _ domain = None
 
--- by the parts round each '@'
+-- by the parts between each '@'
 abbrev pub who_of_parts : List (List ℕ) → Option WrittenWho
 who_of_parts (id ∷ []) = option_map (λ written. Id written) (written_id id)
 who_of_parts (word ∷ [] ∷ []) = special_of word
@@ -72,14 +72,14 @@ who_of_parts _ = None
 abbrev pub written_who : List ℕ → Option WrittenWho
 written_who text = who_of_parts (parts at_sign text)
 
--- the user or, if the flag g stands, the group that has what is written
+-- the user or, if the flags have g, the group with the written id or name
 abbrev pub who_with_id : Known → Bool → Written → Option Who
 who_with_id known true written = option_map (λ gid. who.NamedGroup gid)
     (id_of_written (gid_of known) written)
 who_with_id known false written = option_map (λ uid. who.User uid)
     (id_of_written (uid_of known) written)
 
--- the one who is written; a name in another domain is nobody's
+-- the user or group that is written; a name in another domain is unknown
 abbrev pub who_of_written : Known → Bool → WrittenWho → Option Who
 who_of_written known is_group Owner = Some who.Owner
 who_of_written known is_group Group = Some who.Group
@@ -88,11 +88,11 @@ who_of_written known is_group (Id written) = who_with_id known is_group written
 who_of_written known is_group (At name domain) = if bytes_eq domain known.domain
     then who_with_id known is_group (Name name) else None
 
--- the entry, unless it has an effect neither where it stands nor below
+-- the entry, unless it has no effect, neither on the file itself nor on what inherits it
 abbrev pub refuse_idle : Nfsace4 → Result Nfsace4 PieceFault
 refuse_idle ace = if is_idle ace then Err InheritOnly else Ok ace
 
--- what a piece of a text says: an entry, or what is wrong with it
+-- the entry that a piece of a text means, or its fault
 unfoldable pub piece_value : Known → List ℕ → Result Nfsace4 PieceFault
 piece_value known piece = do
   fields ← or_fault Syntax (fields_of piece)

@@ -6,7 +6,7 @@ use Rattle.acl_nfs4.specs.declared.acl.AceFault.{AceFault}
 use Rattle.acl_nfs4.specs.declared.acl.AceFault.TheVariants.{Syntax, UnknownName, TooMany}
 use Rattle.acl_nfs4.specs.declared.acl.AceFault.TheVariants.{InheritOnly, Memory}
 
--- each has an effect where it stands or below
+-- each has an effect on the file itself or on what inherits it
 abbrev pub HaveEffect : List Nfsace4 → Type 0
 HaveEffect aces = All (λ ace. is_idle ace ≡ false) aces
 
@@ -19,7 +19,7 @@ pub record AreAces (aces : List Nfsace4) : Type 0 where
 abbrev pub IsTooLong : ℕ → List Nfsace4 → Type 0
 IsTooLong most aces = most < length aces
 
--- a list in the making, with so many places in itself: it has the entries of a list, and room for
+-- a list under construction, with so many places inline: it has the entries of a list, and room for
 -- as many as it has places
 pub record IsDraft (places : ℕ) (aces : List Nfsace4) (room : ℕ) : Type 0 where
   pub are_aces : AreAces aces

@@ -1,4 +1,4 @@
--- Whether two lists decide alike for everyone, and whom one has to ask to know it.
+-- Whether two lists grant everyone the same, and which requesters decide that.
 use Rattle.std.specs.Prelude.{◌≡◌, ◌≢◌, ◌≤◌, ◌==◌, ◌-◌, ℕ, Bool, false, not, ◌&&◌, ◌||◌, IsTrue}
 use Rattle.std.specs.Prelude.{Option, Some, None, option_to_list, unwrap_or, List, ◌++◌, length}
 use Rattle.std.specs.Prelude.{nat_le, if◌then◌else◌}
@@ -20,39 +20,39 @@ use Rattle.acl_nfs4.specs.declared.who.Who.TheVariants.{Owner, Group, Everyone, 
 abbrev pub Decider : Type 0
 Decider = Identity → ℕ → Bool
 
--- both decide each of these bits alike for every requester, of whatever uid and groups
+-- both grant each of these bits to the same requesters, of whatever uid and groups
 abbrev pub DecideAlike : Decider → Decider → ℕ → Type 0
 DecideAlike before after bits = (requester : Identity) (bit : ℕ) → IsTrue (has bits bit)
     → before requester bit ≡ after requester bit
 
--- what a list decides about a file of this owner and this group
+-- what a list grants on a file of this owner and this group
 abbrev pub decided_by : List Nfsace4 → ℕ → ℕ → Decider
 decided_by aces owner group requester bit = allows (matches owner group requester) bit aces
 
--- the same of these owners
+-- the same for these owners
 abbrev pub decided_at : List Nfsace4 → Owners → Decider
 decided_at aces owners = decided_by aces owners.owner owners.group
 
--- both lists, each for a file of its own owners, decide each of these bits alike for the requester
+-- both lists, each for a file of its own owners, grant the requester the same of these bits
 abbrev pub AlikeFor : List Nfsace4 → List Nfsace4 → Owners → Owners → ℕ → Identity → Type 0
 AlikeFor first second owners other_owners bits requester =
     (bit : ℕ) → IsTrue (has bits bit) → decided_at first owners requester bit
     ≡ decided_at second other_owners requester bit
 
--- the user that one has to be for an entry to apply, if any
+-- the only uid to which an entry applies, if there is only one
 abbrev pub needed_uid : ℕ → Who → Option ℕ
 needed_uid owner Owner = Some owner
 needed_uid owner (User uid) = Some uid
 needed_uid owner _ = None
 
--- the group that one has to be in, if any
+-- the group that a requester must be in for an entry to apply, if any
 abbrev pub needed_gid : ℕ → Who → Option ℕ
 needed_gid group Group = Some group
 needed_gid group (NamedGroup gid) = Some gid
 needed_gid group _ = None
 
--- one to whom both entries apply, if they apply to anybody at once: a stranger, if neither asks for
--- a user
+-- a requester to whom both entries apply, if both apply to anybody at once: a stranger, if neither
+-- requires a uid
 abbrev pub asker_for : Owners → Owners → ℕ → Who → Who → Identity
 asker_for owners other_owners stranger who other = record {
   uid = unwrap_or (needed_uid owners.owner who)
@@ -61,21 +61,21 @@ asker_for owners other_owners stranger who other = record {
       ++ option_to_list (needed_gid other_owners.group other);
 }
 
--- whether it asks for this user
+-- whether an entry applies to this user alone
 abbrev pub needs_user : ℕ → ℕ → Who → Bool
 needs_user owner uid Owner = owner == uid
 needs_user owner uid (User named) = named == uid
 needs_user owner uid _ = false
 
--- whether one of the entries, of either style, does
+-- whether one of the entries, of either style, applies to this user alone
 abbrev pub asks_for : {E : Type 0} → (E → Who) → ℕ → ℕ → List E → Bool
 asks_for who owner uid entries = list_any (λ entry. needs_user owner uid (who entry)) entries
 
--- No entry asks for this user. Any such user may come as the stranger.
+-- No entry applies to this user alone. Any such user may be the stranger.
 abbrev pub IsStranger : {E : Type 0} → (E → Who) → ℕ → List E → ℕ → Type 0
 IsStranger who owner entries uid = All (λ entry. needed_uid owner (who entry) ≢ Some uid) entries
 
--- whether an entry of two lists does, each for a file of its own owner
+-- whether an entry of two lists applies to this user alone, each for a file of its own owner
 abbrev pub is_needed : {E : Type 0} → (E → Who) → List E → ℕ → List E → ℕ → ℕ → Bool
 is_needed who first owner second other_owner uid =
     asks_for who owner uid first || asks_for who other_owner uid second
@@ -88,7 +88,8 @@ has_user known uid = list_any (λ one. one.uid == uid) known
 abbrev pub is_known : List Identity → ℕ → Bool
 is_known known uid = uid == 0 || has_user known uid
 
--- neither list asks for this user, each for a file of its own owner, and it is none who is known
+-- no entry of the two lists applies to this user alone, each for a file of its own owner, and it
+-- isn't a known user
 pub record IsStrangerTo {E : Type 0} (who : E → Who) (first : List E) (owner : ℕ) (second : List E)
     (other_owner : ℕ) (known : List Identity) (uid : ℕ) : Type 0 where
   pub to_first : IsStranger who owner first uid
@@ -99,17 +100,17 @@ pub record IsStrangerTo {E : Type 0} (who : E → Who) (first : List E) (owner :
 abbrev pub tried : ℕ → ℕ
 tried place = if nat_le place NOBODY then NOBODY - place else place
 
--- it holds of each who that the entries are about, and of everyone
+-- it holds for each who of the entries, and for everyone
 abbrev pub OfEach : {E : Type 0} → (E → Who) → List E → (Who → Type 0) → Type 0
 OfEach who entries P = All (λ entry. P (who entry)) entries × P Everyone
 
--- it holds of the asker of each pair of entries, with this stranger for all pairs
+-- it holds for the requester of each pair of entries, with this stranger for all pairs
 abbrev pub AsksPairs : {E : Type 0} → (E → Who) → List E → List E → Owners → Owners → ℕ
     → (Identity → Type 0) → Type 0
 AsksPairs who first second owners other_owners stranger P = OfEach who first (λ one.
     OfEach who second (λ other. P (asker_for owners other_owners stranger one other)))
 
--- it holds of the asker of each pair of entries, with one stranger for all pairs
+-- it holds for the requester of each pair of entries, with one stranger for all pairs
 pub record OfEachAsker {E : Type 0} (who : E → Who) (first second : List E) (owners other_owners :
     Owners) (P : Identity → Type 0) : Type 0 where
   pub stranger : ℕ
@@ -117,8 +118,8 @@ pub record OfEachAsker {E : Type 0} (who : E → Who) (first second : List E) (o
   pub to_second : IsStranger who other_owners.owner second stranger
   pub each : AsksPairs who first second owners other_owners stranger P
 
--- Lists that decide alike for the asker of each pair of entries decide alike for everyone, each for
--- a file of its own owners.
+-- Lists that grant the same to the requester of each pair of entries grant the same to everyone,
+-- each for a file of its own owners.
 abbrev pub PairsSuffice : Type 0
 PairsSuffice =
     (first second : List Nfsace4) (owners other_owners : Owners) (bits : ℕ)
@@ -126,8 +127,8 @@ PairsSuffice =
     (AlikeFor first second owners other_owners bits)
     → DecideAlike (decided_at first owners) (decided_at second other_owners) bits
 
--- Lists that decide alike for everyone who is in at most two groups decide alike for everyone, each
--- for a file of its own owners.
+-- Lists that grant the same to everyone in at most two groups grant the same to everyone, each for
+-- a file of its own owners.
 abbrev pub TwoGroupsSuffice : Type 0
 TwoGroupsSuffice =
     (first second : List Nfsace4) (owners other_owners : Owners) (bits : ℕ)
@@ -135,7 +136,7 @@ TwoGroupsSuffice =
     → AlikeFor first second owners other_owners bits requester)
     → DecideAlike (decided_at first owners) (decided_at second other_owners) bits
 
--- of these bits, the asker loses those that are granted only before and gains those that are
+-- of these bits, the requester loses those that are granted only before and gains those that are
 -- granted only after, and there is one
 pub record IsDifference (before after : Decider) (bits : ℕ) (difference : Difference) : Type 0 where
   pub lost : (bit : ℕ)

@@ -1,4 +1,4 @@
--- What a list grants (RFC 8881, section 6.2.1), and the mode that it shows (section 6.3.2).
+-- What a list grants (RFC 8881, section 6.2.1), and the mode of its file (section 6.3.2).
 use Rattle.std.specs.Prelude.{ℕ, ◌^◌, Bool, false, ◌&&◌, ◌||◌, if◌then◌else◌, IsTrue, List, Option}
 use Rattle.std.specs.Prelude.{find, option_map, unwrap_or}
 use Rattle.std.specs.List.{filter, list_all, range_with_len}
@@ -12,15 +12,15 @@ use Rattle.acl_posix.specs.Mode.{Classes}
 use Rattle.acl_nfs4.specs.declared.who.Who.{Who}
 use Rattle.acl_nfs4.specs.declared.who.Who.TheVariants.{Owner, Group, Everyone}
 
--- whether the entry speaks of the bit, if its who applies
+-- whether the entry allows or denies the bit, if its who applies
 unfoldable pub speaks : (Who → Bool) → ℕ → Nfsace4 → Bool
 speaks applies bit ace = decides ace && (applies ace.who && has ace.mask bit)
 
--- what the first entry that speaks of the bit says: whether it is allowed
+-- whether the first entry that allows or denies the bit allows it
 abbrev pub verdict : (Who → Bool) → ℕ → List Nfsace4 → Option Bool
 verdict applies bit aces = option_map (λ ace. is_allow ace.kind) (find (speaks applies bit) aces)
 
--- whether the bit is granted: the first entry that speaks of it allows it
+-- whether the bit is granted: the first entry that allows or denies it allows it
 abbrev pub allows : (Who → Bool) → ℕ → List Nfsace4 → Bool
 allows applies bit aces = unwrap_or (verdict applies bit aces) false
 
@@ -37,7 +37,7 @@ abbrev pub grants4 : List Nfsace4 → ℕ → ℕ → Identity → ℕ → Bool
 grants4 acl owner group requester mask = list_all
     (λ bit. allows (matches owner group requester) bit acl) (places_of mask)
 
--- the permissions that a list shows for those to whom these entries apply
+-- the permissions of the mode for those to whom these entries apply
 abbrev pub shown_to : (Who → Bool) → List Nfsace4 → ℕ
 shown_to applies aces =
     (if allows applies read_data aces then 2 ^ read_permission else 0)
@@ -45,12 +45,12 @@ shown_to applies aces =
     then 2 ^ write_permission else 0)
     ∪ (if allows applies execute aces then 2 ^ execute_permission else 0)
 
--- the entries that tell the mode of one of OWNER@, GROUP@ and EVERYONE@: its own, and those of
+-- the entries that count for the mode of one of OWNER@, GROUP@ and EVERYONE@: its own, and those of
 -- EVERYONE@
 abbrev pub of_class : Who → Who → Bool
 of_class class who = same_who who class || same_who who Everyone
 
--- the mode that the list shows
+-- the mode of a file with the list
 abbrev pub mode_of : List Nfsace4 → Classes
 mode_of aces = record {
   user = shown_to (of_class Owner) aces;

@@ -10,7 +10,7 @@ flag_bits flags = flags.0
 abbrev pub all_flags : ℕ
 all_flags = 0x7F
 
--- the places of the flags that speak of inheritance
+-- the places of the flags of inheritance
 abbrev pub file_inherit : ℕ
 file_inherit = 0
 
@@ -28,6 +28,6 @@ abbrev pub inheritance_flags : ℕ
 inheritance_flags = 2 ^ file_inherit + 2 ^ directory_inherit + 2 ^ no_propagate_inherit
     + 2 ^ inherit_only
 
--- the place of the flag that says that the who is a group
+-- the place of the flag of entries whose who is a group
 abbrev pub identifier_group : ℕ
 identifier_group = 6

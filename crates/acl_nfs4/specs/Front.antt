@@ -1,4 +1,4 @@
--- Private steps, which no public clause cites: the fields of an entry with which a text begins.
+-- Private steps, which no public clause cites: the fields of an entry that a text begins with.
 use Rattle.std.specs.Prelude.{◌≡◌, List, ℕ, ◌∷◌, ◌++◌}
 use Rattle.acl_names.specs.Bytes.{colon}
 use Rattle.acl_names.specs.Plain.{IsField}

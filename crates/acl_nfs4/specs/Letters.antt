@@ -1,5 +1,4 @@
--- The letters that flags and the bits of a mask have in texts, in the order in which they are
--- printed.
+-- The letters of flags and of a mask's bits, in the order in which they are printed.
 use Rattle.std.specs.Prelude.{List, [], ◌∷◌}
 use Rattle.acl_names.specs.declared.text.letters.Letter.{Letter}
 

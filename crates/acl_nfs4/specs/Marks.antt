@@ -1,5 +1,5 @@
--- Private steps, which no public clause cites: marks of whos, by which a list that has no entry
--- about someone is reported.
+-- Private steps, which no public clause cites: marks of whos, a fast test whether a list may have
+-- an entry for somebody.
 use Rattle.std.specs.Prelude.{◌≡◌, ℕ, ◌%◌, Bool, true, false, List, slice_index_or}
 use Rattle.std.specs.List.{list_any}
 use Rattle.acl_nfs4.specs.Ace.{Nfsace4}

@@ -1,5 +1,4 @@
--- Access masks (RFC 8881, section 6.2.1.3), and what a file mode's permissions stand for among
--- their bits.
+-- Access masks (RFC 8881, section 6.2.1.3), and which of their bits a file mode's permissions mean.
 use Rattle.std.specs.Prelude.{ℕ, ◌+◌, ◌^◌, if◌then◌else◌}
 use Rattle.acl_names.specs.Bits.{has, without, ◌∪◌}
 use Rattle.acl_nfs4.specs.declared.mask.Mask.{Mask}
@@ -12,7 +11,7 @@ mask_bits mask = mask.0
 abbrev pub all_masks : ℕ
 all_masks = 0x1F01FF
 
--- the places of the mask's bits that a file mode speaks of
+-- the places of the mask's bits that a file mode controls
 abbrev pub read_data : ℕ
 read_data = 0
 
@@ -39,7 +38,7 @@ write_permission = 1
 abbrev pub execute_permission : ℕ
 execute_permission = 0
 
--- the mask that stands for a file mode's permissions
+-- the mask of a file mode's permissions
 unfoldable pub mask_of : ℕ → ℕ
 mask_of perms =
     (if has perms read_permission then 2 ^ read_data else 0)

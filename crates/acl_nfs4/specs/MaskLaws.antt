@@ -1,4 +1,4 @@
--- What the test of a mask tells.
+-- The test of a mask.
 use Rattle.std.specs.Prelude.{◌^◌, ◌<◌, ◌↔◌, ℕ, IsTrue, List}
 use Rattle.acl_names.specs.Requester.{Identity}
 use Rattle.acl_nfs4.specs.Ace.{Nfsace4}

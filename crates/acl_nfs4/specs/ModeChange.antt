@@ -12,7 +12,7 @@ use Rattle.acl_posix.specs.Mode.{Classes}
 use Rattle.acl_nfs4.specs.declared.who.Who.{Who}
 use Rattle.acl_nfs4.specs.declared.who.Who.TheVariants.{Owner, Group, Everyone}
 
--- an entry that decides and is inherited too, as one entry for each
+-- an entry that decides and is also inherited, as two entries
 unfoldable pub split : Nfsace4 → List Nfsace4
 split ace =
     if decides ace && is_inheritable ace
@@ -20,42 +20,43 @@ split ace =
     { flags = without ace.flags inheritance_flags } ∷ []
     else ace ∷ []
 
--- what an entry that decides keeps of its mask: a special identifier's nothing of the mode's bits,
--- and one that allows a named user or group nothing of those that the mode's group lacks
+-- what an entry that decides keeps of its mask: one for a special identifier none of the mode's
+-- bits, and one that allows a named user or group none of those that the mode's group lacks
 unfoldable pub kept_mask : ℕ → Nfsace4 → ℕ
 kept_mask group ace =
     if is_special ace.who then without ace.mask mode_bits
     else if is_allow ace.kind then without ace.mask (rest_of group)
     else ace.mask
 
--- what is left of an entry beside a mode with this group
+-- what is left of an entry under a mode with this group
 unfoldable pub kept_of_part : ℕ → Nfsace4 → List Nfsace4
 kept_of_part group ace = if decides ace
     then unless_empty (record ace { mask = kept_mask group ace }) else ace ∷ []
 
--- what an entry leaves, split and restricted
+-- what is left of an entry, split and restricted
 abbrev pub kept_of_entry : ℕ → Nfsace4 → List Nfsace4
 kept_of_entry group ace = flat_map (kept_of_part group) (split ace)
 
--- what the old list leaves beside a mode with this group
+-- what is left of the old list under a mode with this group
 abbrev pub kept_of_list : ℕ → List Nfsace4 → List Nfsace4
 kept_of_list group aces = flat_map (kept_of_part group) (flat_map split aces)
 
--- each who at its first place alone
+-- each who only once, at its first place
 abbrev pub without_repeats : List Who → List Who
 without_repeats [] = []
 without_repeats (who ∷ rest) = who
     ∷ filter (λ other. not (same_who other who)) (without_repeats rest)
 
--- whether an entry decides about a named user or group
+-- whether an entry allows or denies a named user or group something
 abbrev pub names_someone : Nfsace4 → Bool
 names_someone ace = decides ace && not (is_special ace.who)
 
--- the named users and groups that an entry decides about, in the order of their first entry
+-- the named users and groups whom entries allow or deny something, in the order of their first
+-- entry
 abbrev pub named_whos : List Nfsace4 → List Who
 named_whos aces = without_repeats (map (λ ace. ace.who) (filter names_someone aces))
 
--- whether an entry decides about this who by name
+-- whether an entry allows or denies this who something by name
 abbrev pub names : Who → Nfsace4 → Bool
 names who ace = names_someone ace && same_who ace.who who
 
@@ -67,11 +68,11 @@ denies_by_name who ace = decides ace && (is_deny ace.kind && same_who ace.who wh
 abbrev pub denied_to : Who → List Nfsace4 → ℕ
 denied_to who aces = union (map (λ ace. ace.mask) (filter (denies_by_name who) aces))
 
--- bits that are denied to this who as far as the list does not deny them
+-- a denial of those of the bits that the list doesn't deny this who
 abbrev pub denial_of : ℕ → List Nfsace4 → Who → List Nfsace4
 denial_of bits aces who = plain_ace Deny who (without bits (denied_to who aces))
 
--- the entries that stand first, for the owner, and last, for the group and everyone
+-- the entries at the front, for the owner, and at the end, for the group and everyone
 abbrev pub for_owner : ℕ → List Nfsace4
 for_owner user = plain_ace Allow Owner (mask_of user) ++ plain_ace Deny Owner (rest_of user)
 
@@ -80,7 +81,7 @@ for_others group other = plain_ace Allow Group (mask_of group)
     ++ plain_ace Deny Group (rest_of group)
     ++ plain_ace Allow Everyone (mask_of other)
 
--- the denials of all whom the list names
+-- the denials for all whom the list names
 abbrev pub denials : ℕ → List Nfsace4 → List Nfsace4
 denials bits aces = flat_map (denial_of bits aces) (named_whos aces)
 
@@ -100,8 +101,8 @@ with_mode aces mode = with_denials (rest_of mode.group) aces mode
 abbrev pub beyond_group : Classes → ℕ
 beyond_group mode = without (mask_of mode.other) (mask_of mode.group)
 
--- the list with the mode set, with no denial but of what entries behind it would allow: a mode that
--- is set later can lift the others
+-- the list with the mode set, which denies only what entries after it would allow: a mode that is
+-- set later can lift the other denials
 abbrev pub with_mode_least : List Nfsace4 → Classes → List Nfsace4
 with_mode_least aces mode = with_denials (beyond_group mode) aces mode
 

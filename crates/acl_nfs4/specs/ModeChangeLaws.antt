@@ -15,7 +15,7 @@ use Rattle.acl_nfs4.specs.ModeChange.{beyond_group, names_someone, with_mode_lea
 use Rattle.acl_nfs4.specs.declared.inheritance.Kind.{Kind}
 use Rattle.acl_nfs4.specs.declared.who.Who.{Who}
 
--- the elements of the first list stand in the second, in order
+-- the second list has the elements of the first, in order
 pub data IsSublist {X : Type 0} : List X → List X → Type 0 where
   ends : IsSublist [] []
   skips : {x : X} {xs ys : List X} → IsSublist xs ys → IsSublist xs (x ∷ ys)
@@ -63,7 +63,7 @@ LimitsNamed old new mode =
     → names_any (matches owner group requester) old ≡ true → has (mask_of mode.group) bit ≡ false
     → allows (matches owner group requester) bit new ≡ false
 
--- whoever asks, both lists decide each bit alike
+-- both lists grant every requester the same bits
 abbrev pub DecideEachAlike : List Nfsace4 → List Nfsace4 → Type 0
 DecideEachAlike first second = (applies : Who → Bool) (bit : ℕ)
     → allows applies bit first ≡ allows applies bit second
@@ -72,22 +72,22 @@ DecideEachAlike first second = (applies : Who → Bool) (bit : ℕ)
 abbrev pub KeepsAudits : List Nfsace4 → List Nfsace4 → Type 0
 KeepsAudits old new = audits_and_alarms new ≡ audits_and_alarms old
 
--- the entries that were only inherited stand, in order
+-- the inherit-only entries stay, in order
 abbrev pub KeepsInheritOnly : List Nfsace4 → List Nfsace4 → Type 0
 KeepsInheritOnly old new = IsSublist (inherit_only_entries old) new
 
--- what is made below inherits the same
+-- new files and directories inherit the same
 abbrev pub InheritsAlike : List Nfsace4 → List Nfsace4 → Type 0
 InheritsAlike old new = (kind : Kind) → inherited_list kind new ≡ inherited_list kind old
 
--- an entry that decides about a named user or group speaks of the bit, and doesn't allow it
+-- an entry for a named user or group has the bit, and doesn't allow it
 abbrev pub is_refused_by_name : (Who → Bool) → ℕ → List Nfsace4 → Bool
 is_refused_by_name applies bit aces = list_any
     (λ ace. not (is_special ace.who) && (speaks applies bit ace && not (is_allow ace.kind))) aces
 
--- After a mode is set with the least denials another is, and the others of both have no more than
--- the group. Whoever isn't the owner, and is refused nothing by name in the list before, then has
--- what the second mode's others have, whatever the first mode was.
+-- One mode is set with the least denials, and then another, and the others of both have no more
+-- than the group. A requester who isn't the owner, and is refused nothing by name in the list
+-- before, then has what the second mode's others have, whatever the first mode was.
 abbrev pub LaterModesLift : Type 0
 LaterModesLift = (aces : List Nfsace4) (first second : Classes) (owner group : ℕ)
     (requester : Identity) (bit : ℕ)

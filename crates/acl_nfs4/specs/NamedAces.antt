@@ -1,4 +1,4 @@
--- What an entry says where whoever knows the names says who is meant: no name stands in a domain.
+-- What an entry means by the names of any resolver: no name has a domain.
 use Rattle.std.specs.Prelude.{◌≡◌, ◌≤◌, ℕ, List, Bool, true, false, Option, Some, None, Result, Ok}
 use Rattle.std.specs.Prelude.{Err, codes, decimal, if◌then◌else◌, bytes_eq}
 use Rattle.acl_names.specs.Bits.{has}
@@ -21,7 +21,7 @@ use Rattle.acl_nfs4.specs.declared.reading.PieceFault.TheVariants.{Syntax, Unkno
 use Rattle.acl_nfs4.specs.declared.who.Who.{Who}
 use Rattle.acl_nfs4.specs.declared.who.Who.TheVariants.{Owner, Group, Everyone, User, NamedGroup}
 
--- the one who has the id that is written
+-- the who with the id that was found
 abbrev pub who_with : (ℕ → Who) → Result ℕ NameFault → Result Who PieceFault
 who_with tag (Ok id) = Ok (tag id)
 who_with tag (Err Malformed) = Err Syntax
@@ -45,11 +45,11 @@ abbrev pub special_or : Option Who → Result Who PieceFault → Result Who Piec
 special_or (Some who) named = Ok who
 special_or None named = named
 
--- whom the field of an entry names: a group if the flag g stands
+-- whom the field of an entry names: a group if the flags have g
 abbrev pub who_by : Names → Bool → List ℕ → Result Who PieceFault
 who_by names is_group text = special_or (special_who text) (named_who names is_group text)
 
--- what a piece of a text says: an entry, or what is wrong with it
+-- the entry that a piece of a text means, or its fault
 unfoldable pub ace_by : Names → List ℕ → Result Nfsace4 PieceFault
 ace_by names piece = do
   fields ← or_fault Syntax (fields_of piece)
@@ -59,11 +59,11 @@ ace_by names piece = do
   who ← who_by names (has flags identifier_group) fields.who
   refuse_idle (ace_of kind flags who mask)
 
--- a decimal is read as its id, whoever there is
+-- a decimal is read as its id, whatever users and groups there are
 pub record ReadNumbers (names : Names) : Type 0 where
   pub uids : (uid : ℕ) → uid ≤ MAX_ID → resolved names.written names.uid (decimal uid) ≡ Ok uid
   pub gids : (gid : ℕ) → gid ≤ MAX_ID → resolved names.written names.gid (decimal gid) ≡ Ok gid
 
--- the fault of the leftmost piece that is no entry or is one too many
+-- the fault of the leftmost piece that isn't an entry or is one too many
 abbrev pub IsFaultBy : Names → List ℕ → AceFault → Type 0
 IsFaultBy names text fault = IsFaultOf (ace_by names) MAX_ACES text (list_fault fault)

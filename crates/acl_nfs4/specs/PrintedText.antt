@@ -55,7 +55,7 @@ line_text known ace = ace_text known ace ++ newline ∷ []
 abbrev pub aces_text : Known → List Nfsace4 → List ℕ
 aces_text known = flat_map (line_text known)
 
--- the short form: ids are decimals, by which they are read whatever names there are
+-- the short form: ids are decimals, which are read as themselves whatever names there are
 abbrev pub short_who : Who → List ℕ
 short_who = who_by decimal decimal
 

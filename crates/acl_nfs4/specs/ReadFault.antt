@@ -1,4 +1,4 @@
--- Which fault a text of entries is refused for.
+-- The fault for which a text of entries is refused.
 use Rattle.std.specs.Prelude.{ℕ, List}
 use Rattle.acl_names.specs.Directory.{Known}
 use Rattle.acl_names.specs.ListText.{IsFaultOf}
@@ -20,6 +20,6 @@ list_fault TooMany = list.TooMany
 list_fault InheritOnly = list.Piece piece.InheritOnly
 list_fault Memory = list.Memory
 
--- the fault of the leftmost piece that is no entry or is one too many
+-- the fault of the leftmost piece that isn't an entry or is one too many
 abbrev pub IsTextFault : Known → List ℕ → AceFault → Type 0
 IsTextFault known text fault = IsFaultOf (piece_value known) MAX_ACES text (list_fault fault)

@@ -1,4 +1,4 @@
--- Whom an entry is about (RFC 8881, section 6.2.1.5).
+-- Whom an entry is for (RFC 8881, section 6.2.1.5).
 use Rattle.std.specs.Prelude.{ℕ, ◌^◌, ◌≤◌, Bool, true, false, ◌==◌}
 use Rattle.acl_names.specs.declared.limits.TheConstants.{MAX_ID}
 use Rattle.acl_names.specs.Requester.{Identity, is_in_group}
@@ -26,7 +26,7 @@ same_who (User uid) (User other) = uid == other
 same_who (NamedGroup gid) (NamedGroup other) = gid == other
 same_who _ _ = false
 
--- whether the who is the requester of an object with this owner and group
+-- whether an entry for the who applies to the requester, for a file with this owner and group
 abbrev pub matches : ℕ → ℕ → Identity → Who → Bool
 matches owner group requester Owner = requester.uid == owner
 matches owner group requester Group = is_in_group requester group
@@ -34,7 +34,7 @@ matches owner group requester Everyone = true
 matches owner group requester (User named) = requester.uid == named
 matches owner group requester (NamedGroup named) = is_in_group requester named
 
--- whom a POSIX entry with this tag is about; of a mask no NFSv4 entry is made
+-- whom a POSIX entry with this tag is for; a mask has no NFSv4 entry
 abbrev pub who_of : Tag → Who
 who_of tags.UserObj = Owner
 who_of (tags.User uid) = User uid
@@ -42,17 +42,17 @@ who_of tags.GroupObj = Group
 who_of (tags.Group gid) = NamedGroup gid
 who_of _ = Everyone
 
--- the flags of an entry that has none but what its who asks for
+-- the flags that an entry for this who requires
 abbrev pub flags_of_who : Who → ℕ
 flags_of_who (NamedGroup _) = 2 ^ identifier_group
 flags_of_who _ = 0
 
--- the id that it names; the special identifiers name none
+-- its id; the special identifiers have none
 abbrev pub id_of : Who → ℕ
 id_of (User uid) = uid
 id_of (NamedGroup gid) = gid
 id_of _ = 0
 
--- the id that it names is one
+-- its id is in the range of ids
 abbrev pub HasId : Who → Type 0
 HasId who = id_of who ≤ MAX_ID

@@ -17,7 +17,7 @@ pub enum AceType {
     Deny,
     /// Logs an access; it decides nothing.
     Audit,
-    /// Sounds an alarm at an access; it decides nothing.
+    /// Raises an alarm at an access; it decides nothing.
     Alarm,
 }
 
@@ -44,8 +44,8 @@ impl AceType {
     }
 }
 
-/// An entry of an access control list (RFC 8881, section 6.2.1). It has no bit without a name, and
-/// the flag `IDENTIFIER_GROUP` exactly if it names a group.
+/// An entry of an access control list (RFC 8881, section 6.2.1). It has only bits with a name, and
+/// has the flag `IDENTIFIER_GROUP` exactly if it names a group.
 #[derive(Clone, Copy, Debug, PartialEq, Eq)]
 pub struct Ace {
     kind: AceType,
@@ -54,7 +54,7 @@ pub struct Ace {
     mask: Mask,
 }
 
-/// An entry that allows the owner nothing: what stands in the places of a list that hold no entry.
+/// An entry that allows the owner nothing: it fills the unused places of a list.
 impl Default for Ace {
     ghost use Rattle.acl_nfs4.specs.declared.ace.AceType.TheVariants.{Allow};
     ghost use Rattle.acl_nfs4.specs.declared.who.Who.TheVariants.{Owner};
@@ -108,8 +108,8 @@ impl Ace {
     ghost use Rattle.acl_nfs4.specs.Mask.{all_masks};
     ghost use Rattle.acl_nfs4.specs.Who.{flags_of_who};
 
-    /// The entry of these parts. It sets `IDENTIFIER_GROUP` if `who` is a named group and clears it
-    /// elsewhere, and leaves out bits without a name.
+    /// Makes an entry of these parts. It sets `IDENTIFIER_GROUP` if `who` is a group by id and else
+    /// clears it, and drops bits without a name.
     pub fn new(kind: AceType, flags: Flags, who: Who, mask: Mask) -> Ace
         ensures { result ≡ ace_of kind (flag_bits flags) who (mask_bits mask) }
     {
@@ -122,7 +122,7 @@ impl Ace {
         }
     }
 
-    /// What the entry does with the bits of its mask.
+    /// Whether the entry allows, denies, audits or raises an alarm.
     pub fn kind(&self) -> AceType
         ensures { result ≡ self.now.kind }
     {
@@ -137,14 +137,14 @@ impl Ace {
         self.flags
     }
 
-    /// Whom the entry is about.
+    /// Whom the entry is for.
     pub fn who(&self) -> Who
         ensures { result ≡ self.now.who }
     {
         self.who
     }
 
-    /// What the entry allows, denies or watches.
+    /// The bits that the entry allows, denies or watches.
     pub fn mask(&self) -> Mask
         ensures value { mask_bits result ≡ self.now.mask }
         ensures ace { IsAce self.now }
@@ -152,7 +152,7 @@ impl Ace {
         self.mask
     }
 
-    /// Whether the entry allows or denies, and not only what is made below.
+    /// Whether the entry allows or denies something on the file itself: it isn't inherit-only.
     #[tactic(auto, unfolding(crate::specs::Ace::decides))]
     pub(crate) fn decides(&self) -> bool
         ensures { result ≡ decides self.now }
@@ -161,7 +161,7 @@ impl Ace {
         kind.decides() && !self.flags.has_inherit_only()
     }
 
-    /// Whether something made below inherits the entry.
+    /// Whether new files or directories inherit the entry.
     pub(crate) fn is_inheritable(&self) -> bool
         ensures { result ≡ is_inheritable self.now }
     {
@@ -169,7 +169,7 @@ impl Ace {
         flags.has_file_inherit() || flags.has_directory_inherit()
     }
 
-    /// Whether the entry has an effect neither where it stands nor below.
+    /// Whether the entry has no effect, neither on the file itself nor on what inherits it.
     pub fn is_idle(&self) -> bool
         ensures { result ≡ is_idle self.now }
     {
@@ -177,7 +177,7 @@ impl Ace {
         flags.has_inherit_only() && !self.is_inheritable()
     }
 
-    /// An entry with no flags but what its who asks for.
+    /// An entry with no flags but those that its `who` requires.
     pub(crate) fn plain_ace(kind: AceType, who: Who, mask: Mask) -> Ace
         requires { mask_bits mask ∩ all_masks ≡ mask_bits mask }
         ensures value { result ≡ record {
@@ -197,7 +197,7 @@ impl Ace {
         }
     }
 
-    /// The entry with these flags in place of its own.
+    /// The entry with these flags instead of its own.
     pub(crate) fn with_flags(&self, flags: Flags) -> Ace
         requires known { flag_bits flags ∩ all_flags ≡ flag_bits flags }
         requires group { has (flag_bits flags) identifier_group
@@ -212,7 +212,7 @@ impl Ace {
         }
     }
 
-    /// The entry with this mask in place of its own.
+    /// The entry with this mask instead of its own.
     pub(crate) fn with_mask(&self, mask: Mask) -> Ace
         requires { mask_bits mask ∩ all_masks ≡ mask_bits mask }
         ensures { result ≡ record self.now { mask = mask_bits mask } }

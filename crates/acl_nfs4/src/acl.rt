@@ -8,23 +8,23 @@ use smallvec::SmallVec;
 use std::alloc::{AllocError, Global};
 use std::marker::Model;
 
-/// Why a text, or an entry, was refused.
+/// Why a text, or an entry, is refused.
 #[derive(Clone, Copy, Debug, PartialEq, Eq)]
 pub enum AceFault {
     /// A piece of the text has none of the shapes of an entry.
     Syntax,
-    /// A well-shaped name that the directory lacks.
+    /// An entry has a name that no user, or no group, has.
     UnknownName,
     /// The list would have more than 128 entries.
     TooMany,
-    /// `INHERIT_ONLY` without `FILE_INHERIT` or `DIRECTORY_INHERIT`.
+    /// An entry has `INHERIT_ONLY` without `FILE_INHERIT` or `DIRECTORY_INHERIT`.
     InheritOnly,
-    /// An allocation failed.
+    /// Memory ran out.
     Memory,
 }
 
-/// An access control list: entries in the order in which they are evaluated, at most 128. None of
-/// them has `INHERIT_ONLY` without `FILE_INHERIT` or `DIRECTORY_INHERIT`.
+/// An access control list: at most 128 entries, in the order in which they are evaluated. No entry
+/// has `INHERIT_ONLY` without `FILE_INHERIT` or `DIRECTORY_INHERIT`.
 #[derive(Debug, Drop)]
 pub struct Acl4 {
     aces: SmallVec<Ace, INLINE_ACES>,
@@ -57,7 +57,7 @@ impl Acl4 {
         }
     }
 
-    /// The list with no entries and room for this many, so that it grows once at most. Fails only
+    /// The list with no entries and room for `capacity`, so that it grows once at most. Fails only
     /// if memory runs out.
     pub fn with_capacity(alloc: Global, capacity: usize) -> Result<Acl4, AllocError>
         ensures value { IfOk result (λ acl. acl ≡ []) }
@@ -77,8 +77,8 @@ impl Acl4 {
         Acl4 { aces }
     }
 
-    /// Puts the entry after the others. It is refused with `TooMany` if there are 128, then with
-    /// `InheritOnly`, then with `Memory`; the list is as before then.
+    /// Appends the entry. Fails with `TooMany` if there are 128 already, else with `InheritOnly` if
+    /// the entry has no effect, else with `Memory`; then the list stays as it was.
     pub fn push(&mut self, ace: Ace) -> Result<(), AceFault>
         ensures ok { OnOk result (self.new ≡ self.old ++ ace ∷ []) }
         ensures too_many { (result ≡ Err AceFault.TooMany) ↔ (length self.old ≡ MAX_ACES) }
@@ -117,7 +117,7 @@ impl Acl4 {
         self.aces() == other.aces()
     }
 
-    /// A list of the same entries. Fails only if memory runs out.
+    /// Clones the list. Fails only if memory runs out.
     pub fn try_clone(&self, alloc: Global) -> Result<Acl4, AllocError>
         ensures value { IfOk result (λ acl. acl ≡ self.now) }
         ensures short { length self.now ≤ INLINE_ACES → IsOk result }

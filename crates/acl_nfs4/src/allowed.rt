@@ -1,4 +1,4 @@
-//! What a list allows, of several bits at once (RFC 8881, section 6.2.1).
+//! Which of several bits a list grants (RFC 8881, section 6.2.1).
 ghost use Rattle.std.specs.Prelude.{◌≡◌, ◌&&◌, ℕ};
 ghost use Rattle.acl_names.specs.Bits.{has};
 ghost use Rattle.acl_nfs4.specs.Evaluation.{allows};
@@ -10,8 +10,8 @@ use acl_names::{Gid, Subject, Uid};
 use acl_posix::without;
 use bitflags::Flags as FlagSet;
 
-/// Those of the bits that the entries allow whoever asks. It goes down the list once, until no bit
-/// is open. It is never inlined, so that its loop has the registers for itself where lists are
+/// The bits of `bits` that the entries grant the subject. It reads the list once, until every bit
+/// is decided. Never inlined, so that its loop has the registers to itself where lists are
 /// compared.
 #[inline(never)]
 pub(crate) fn allowed_to<S: Subject>(
@@ -42,8 +42,8 @@ pub(crate) fn allowed_to<S: Subject>(
 }
 
 impl Acl4 {
-    /// Those of the bits that whoever asks is allowed of a file of this owner and this group: each
-    /// exactly if a request for it alone is granted. It takes no memory.
+    /// The bits of `bits` that the list grants the subject, for a file of this owner and this
+    /// group: each exactly if `grants4` grants it alone. It takes no memory.
     pub fn allowed<S: Subject>(&self, owner: Uid, group: Gid, subject: &S, bits: Mask) -> Mask
         ensures { (bit : ℕ) → has (mask_bits result) bit
             ≡ (has (mask_bits bits) bit && allows (matches owner group (S.identity subject.now)) bit

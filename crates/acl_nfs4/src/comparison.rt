@@ -1,4 +1,4 @@
-//! Whether two lists decide alike for everyone.
+//! Whether two lists grant everyone the same.
 ghost use Rattle.std.specs.Prelude.{◌≡◌, ◌↔◌, None, IfSome};
 ghost use Rattle.acl_nfs4.specs.Comparison.{DecideAlike, IsDifference, decided_at};
 ghost use Rattle.acl_nfs4.specs.Mask.{mask_bits};
@@ -9,19 +9,19 @@ use crate::{Ace, Acl4, Mask, Owners};
 use acl_names::Asker;
 use acl_posix::without;
 
-/// For whom two lists decide differently, and what.
+/// A requester whom two lists grant different bits, and which.
 #[derive(Clone, Copy, Debug, PartialEq, Eq)]
 pub struct Difference {
-    /// To whom.
+    /// The requester.
     pub asker: Asker,
-    /// What only the first list allows.
+    /// The bits that only the first list grants.
     pub lost: Mask,
-    /// What only the second list allows.
+    /// The bits that only the second list grants.
     pub gained: Mask,
 }
 
 impl Difference {
-    /// The difference where the second list becomes the first.
+    /// The difference with the lists in the other order.
     pub fn reversed(self) -> Difference
         ensures { result ≡ record {
           asker = self.asker;
@@ -37,7 +37,7 @@ impl Difference {
     }
 }
 
-/// Two lists, each for a file of its own owners, as they are compared in these bits.
+/// Two lists to compare in these bits, each for a file of its own owners.
 #[derive(Drop)]
 struct Lists<'a> {
     first: &'a [Ace],
@@ -76,10 +76,10 @@ impl<'a> Compared for Lists<'a> {
 }
 
 impl Acl4 {
-    /// What this list and another decide differently of these bits, each for a file of its own
-    /// owners: none exactly if they decide alike for every requester, of whatever uid and groups;
-    /// else someone in at most two groups, with what only this list and what only the other allows.
-    /// It asks for the asker of each pair of entries, at most 129 times 129, and takes no memory.
+    /// Compares this list with another in these bits, each for a file of its own owners. `None`
+    /// exactly if they grant every requester the same, of whatever uid and groups; else a requester
+    /// in at most two groups, with the bits that only this list and only the other one grants. It
+    /// tries a requester for each pair of entries, at most 129 times 129, and takes no memory.
     pub fn difference(
         &self,
         owners: &Owners,

@@ -1,4 +1,4 @@
-//! A list that is being made.
+//! Lists under construction.
 ghost use Rattle.std.specs.Prelude.{◌≡◌, ◌<◌, ◌≤◌, false, [], ◌∷◌, ◌++◌, length, OnOk, OnErr};
 
 use crate::limits::{INLINE_ACES, MAX_ACES};
@@ -8,13 +8,13 @@ use smallvec::SmallVec;
 use std::alloc::Global;
 use std::marker::Model;
 
-/// There is no room for a further entry.
+/// There is no room for another entry.
 #[derive(Clone, Copy, Debug)]
 pub(crate) struct Full;
 
-/// A list in the making, with room for `N` entries in itself. A `Draft<MAX_ACES>` has all its
-/// entries there, 2 KiB, and never allocates; a `Draft<INLINE_ACES>` has them where the finished
-/// list has them, and allocates for more.
+/// A list under construction, with inline room for `N` entries. A `Draft<MAX_ACES>` has all its
+/// entries inline, 2 KiB, and never allocates; a `Draft<INLINE_ACES>` has as many inline as the
+/// finished list, and allocates for more.
 #[derive(Drop)]
 pub(crate) struct Draft<const N: usize> {
     aces: SmallVec<Ace, N>,
@@ -47,16 +47,15 @@ impl<const N: usize> Draft<N> {
         }
     }
 
-    /// A list in the making is no longer than a list may be. There is nothing to run here: a proof
-    /// cites the contract.
+    /// A draft is no longer than a list may be. There is nothing to run here: a proof cites the
+    /// contract.
     pub(crate) fn length_is_within_limit(&self)
         ensures { length self.now ≤ MAX_ACES }
     {
         let _ = &self.aces;
     }
 
-    /// Puts the entry after the others. It fails only if memory runs out, and not up to `N`
-    /// entries.
+    /// Appends the entry. Fails only if memory runs out, and never up to `N` entries.
     pub(crate) fn push_within(&mut self, ace: Ace) -> Result<(), Full>
         requires room { length self.old < MAX_ACES }
         requires effective { is_idle ace ≡ false }
@@ -71,7 +70,7 @@ impl<const N: usize> Draft<N> {
         }
     }
 
-    /// Puts the entry after the others, unless there is no room.
+    /// Appends the entry, unless there is no room.
     pub(crate) fn push(&mut self, ace: Ace) -> Result<(), Full>
         requires { is_idle ace ≡ false }
         ensures ok { OnOk result (self.new ≡ self.old ++ ace ∷ []) }
@@ -83,7 +82,7 @@ impl<const N: usize> Draft<N> {
         self.push_within(ace)
     }
 
-    /// Puts the entry after the others, unless its mask is empty.
+    /// Appends the entry, unless its mask is empty.
     #[tactic(auto, unfolding(crate::specs::Ace::unless_empty))]
     pub(crate) fn push_unless_empty(&mut self, ace: Ace) -> Result<(), Full>
         requires { is_idle ace ≡ false }
@@ -96,7 +95,7 @@ impl<const N: usize> Draft<N> {
         self.push(ace)
     }
 
-    /// Puts an entry with no flags of its own after the others, unless its mask is empty.
+    /// Appends an entry with no flags of its own, unless its mask is empty.
     pub(crate) fn push_plain(&mut self, kind: AceType, who: Who, mask: Mask) -> Result<(), Full>
         requires { mask_bits mask ∩ all_masks ≡ mask_bits mask }
         ensures ok { OnOk result (self.new ≡ self.old ++ plain_ace kind who (mask_bits mask)) }

@@ -11,7 +11,8 @@ use acl_posix::without;
 use bitflags::Flags as FlagSet;
 
 impl Ace {
-    /// Whether the entry decides about whoever asks for a file of this owner and this group.
+    /// Whether the entry allows or denies the subject something, on a file of this owner and this
+    /// group.
     pub fn concerns<S: Subject>(&self, owner: Uid, group: Gid, subject: &S) -> bool
         ensures { result ≡ (decides self.now && matches owner group (S.identity subject.now)
             self.now.who) }
@@ -20,9 +21,9 @@ impl Ace {
     }
 }
 
-/// Whether the entries grant all that is requested. It goes down the list once and carries the bits
-/// that are still open: an `ALLOW` closes those of its mask, a `DENY` that holds one of them ends
-/// it, and so does an empty rest.
+/// Whether the entries grant all of the request. It reads the list once and keeps the bits that are
+/// still undecided: an `ALLOW` removes those of its mask; a `DENY` with one of them ends the
+/// search, and so do no bits left.
 fn grants(aces: &[Ace], owner: Uid, group: Gid, requester: &Requester, requested: Mask) -> bool
     ensures { IsTrue result ↔ Grants (matches owner group requester.now) aces.now
         (mask_bits requested) }
@@ -44,15 +45,15 @@ fn grants(aces: &[Ace], owner: Uid, group: Gid, requester: &Requester, requested
 }
 
 impl Acl4 {
-    /// Whether the requester may do all of what is requested with a file of this owner and this
-    /// group: of each bit the first entry that speaks of it to the requester decides, and a bit of
-    /// which none speaks is denied (RFC 8881, section 6.2.1). The empty request is granted.
+    /// Whether the list grants the requester all of the request, for a file of this owner and this
+    /// group. The first entry that applies to the requester and has a bit decides it, and a bit
+    /// that no such entry has is denied (RFC 8881, section 6.2.1). The empty request is granted.
     pub fn grants4(&self, owner: Uid, group: Gid, requester: &Requester, requested: Mask) -> bool
         ensures grants { IsTrue result ↔ Grants (matches owner group requester.now) self.now
             (mask_bits requested) }
         ensures test { result ≡ grants4 self.now owner group requester.now (mask_bits requested) }
     {
-        // That a mask has 32 bits is known to the proof only after its number is read.
+        // For the proof only: it knows that a mask has 32 bits after its number is read.
         let _bits = requested.bits();
         grants(self.aces(), owner, group, requester, requested)
     }

@@ -17,19 +17,19 @@ bitflag_items! {
         /// New directories inherit the entry.
         const DIRECTORY_INHERIT = 0x2;
 
-        /// What inherits the entry doesn't pass it on.
+        /// New directories inherit the entry, but what is created in them doesn't.
         const NO_PROPAGATE_INHERIT = 0x4;
 
-        /// The entry has no effect where it stands.
+        /// The entry has no effect on the directory itself.
         const INHERIT_ONLY = 0x8;
 
-        /// An audit or alarm comes with an access that succeeds.
+        /// An audit or alarm entry is about accesses that succeed.
         const SUCCESSFUL_ACCESS = 0x10;
 
-        /// An audit or alarm comes with an access that fails.
+        /// An audit or alarm entry is about accesses that fail.
         const FAILED_ACCESS = 0x20;
 
-        /// The who is a group.
+        /// The entry's `who` is a group.
         const IDENTIFIER_GROUP = 0x40;
     }
 }
@@ -70,13 +70,13 @@ impl Flags {
     ghost use Rattle.acl_nfs4.specs.Flags.{no_propagate_inherit, inherit_only, inheritance_flags};
     ghost use Rattle.acl_nfs4.specs.Flags.{identifier_group};
 
-    /// What a directory has of an entry that only files take over.
+    /// The flags of an entry in a new directory, if only files inherit it.
     pub(crate) const PASSED_TO_FILES: Flags = Flags(0x9);
 
-    /// What a directory has of an entry that files and directories take over.
+    /// The flags of an entry in a new directory, if files and directories inherit it.
     pub(crate) const PASSED_TO_ALL: Flags = Flags(0x3);
 
-    /// The flags that speak of inheritance.
+    /// The flags of inheritance.
     const INHERITANCE: Flags = Flags(0xF);
 
     pub(crate) fn has_file_inherit(self) -> bool
@@ -109,14 +109,14 @@ impl Flags {
         self.contains(Flags::IDENTIFIER_GROUP)
     }
 
-    /// Whether any flag speaks of inheritance.
+    /// Whether any flag is one of inheritance.
     pub(crate) fn has_inheritance(self) -> bool
         ensures { result ≡ not (flag_bits self ∩ inheritance_flags == 0) }
     {
         self.intersects(Flags::INHERITANCE)
     }
 
-    /// The flags that say nothing of inheritance.
+    /// The flags without those of inheritance.
     pub(crate) fn without_inheritance(self) -> Flags
         ensures { flag_bits result ≡ without (flag_bits self) inheritance_flags }
     {

@@ -1,4 +1,4 @@
-//! The fields of an ACE that a text begins with, where they stand plainly: with no blank and no
+//! A fast path for the fields of an ACE that a text begins with, if they have no blanks and no
 //! comment.
 
 ghost use Rattle.std.specs.Prelude.{◌≡◌, ◌≤◌, ◌++◌, length, IfSome};
@@ -9,7 +9,7 @@ ghost use Rattle.acl_nfs4.specs.Front.{BeginsWithFields};
 
 use crate::reading::AceFields;
 
-/// The fields that the text begins with, with no blank round them, and what stands after them.
+/// The fields that the text begins with, without blanks around them, and the text after them.
 pub(crate) fn fields_in_front(text: &[u8]) -> Option<(AceFields<'_>, &[u8])>
     ensures { IfSome result (λ front. BeginsWithFields text.now (view_fields front.0) front.1.now) }
 {

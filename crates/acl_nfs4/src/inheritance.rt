@@ -12,16 +12,17 @@ use crate::{Ace, Acl4, Flags};
 use bitflags::Flags as FlagSet;
 use std::alloc::{AllocError, Global};
 
-/// What is made in a directory.
+/// What is created in a directory.
 #[derive(Clone, Copy, Debug, PartialEq, Eq)]
 pub enum Kind {
-    /// A file, which takes entries over and passes none on.
+    /// A file, which inherits entries and passes none on.
     File,
     /// A directory.
     Dir,
 }
 
-/// The inheritance flags of an entry in what is made below, if it is inherited.
+/// The inheritance flags that an entry has in a new file or directory; `None` if it isn't
+/// inherited.
 fn flags_below(kind: Kind, flags: Flags) -> Option<Flags>
     ensures { option_map flag_bits result
         ≡ flags_below kind (has (flag_bits flags) file_inherit)
@@ -47,7 +48,7 @@ impl Ace {
     ghost use Rattle.std.specs.Prelude.{false};
     ghost use Rattle.acl_nfs4.specs.Ace.{is_idle};
 
-    /// What the entry is in what is made below, if it is inherited.
+    /// The entry as a new file or directory inherits it; `None` if it doesn't.
     fn inherited(&self, kind: Kind) -> Option<Ace>
         ensures value { result ≡ inherited_entry kind self.now }
         ensures effective { IfSome result (λ ace. is_idle ace ≡ false) }
@@ -64,10 +65,10 @@ impl Ace {
 
 impl Acl4 {
     /// The list of a new file or directory in a directory with this list, before a mode is set:
-    /// each entry that it inherits, in order (RFC 8881, section 6.4.3). Files take over entries
-    /// with `FILE_INHERIT`, and their inheritance flags go; directories those with
-    /// `DIRECTORY_INHERIT`, and those with `FILE_INHERIT` alone only to pass them on. With
-    /// `NO_PROPAGATE_INHERIT` nothing is passed on. Fails only if memory runs out.
+    /// each entry that it inherits, in order (RFC 8881, section 6.4.3). Files inherit entries with
+    /// `FILE_INHERIT`, without their inheritance flags; directories inherit those with
+    /// `DIRECTORY_INHERIT`, and those with `FILE_INHERIT` alone only to pass them on. Entries with
+    /// `NO_PROPAGATE_INHERIT` aren't passed on. Fails only if memory runs out.
     pub fn inherited(&self, alloc: Global, kind: Kind) -> Result<Acl4, AllocError>
         ensures value { IfOk result (λ acl. acl ≡ inherited_list kind self.now) }
         ensures short { length (inherited_list kind self.now) ≤ INLINE_ACES → IsOk result }

@@ -14,16 +14,16 @@ ghost use Rattle.acl_nfs4.specs.ModeChangeLaws.{LaterModesLift};
 
 use crate::PieceFault;
 
-/// What a piece says is what the shapes say, both ways. There is nothing to run here: a proof cites
-/// the contract.
+/// A piece means what the shapes of entries define. There is nothing to run here: a proof cites the
+/// contract.
 pub fn pieces_have_shapes()
     ensures { (known : Known) (piece : List ℕ) (ace : Nfsace4) → (piece_value known piece ≡ Ok ace)
         ↔ HasShape known piece ace }
 {}
 
-/// A piece that says no entry is refused for an unknown name exactly if it writes one where the
-/// name is known, for being inherit-only exactly if it writes one without effect, and else for its
-/// shape. There is nothing to run here: a proof cites the contract.
+/// A malformed piece is refused for an unknown name exactly if it would be an entry with the name
+/// known, for being inherit-only exactly if it is an entry without effect, and else for its shape.
+/// There is nothing to run here: a proof cites the contract.
 pub fn faults_of_pieces()
     ensures syntax { (known : Known) (piece : List ℕ)
         → (piece_value known piece ≡ Err PieceFault.Syntax) ↔ HasNoShape piece }
@@ -40,23 +40,23 @@ pub fn letters_are_distinct()
     ensures mask { IsTable mask_table }
 {}
 
-/// By the test of its bits, an answer to a question about a mask is whether the list grants that
-/// mask. There is nothing to run here: a proof cites the contract.
+/// A list grants a mask exactly if the test of its bits says so. There is nothing to run here: a
+/// proof cites the contract.
 pub fn mask_laws()
     ensures { MasksAreDecided }
 {}
 
-/// Two lists, each for a file with its own owners, decide alike for everyone if they decide alike
-/// for certain askers: for each pair of entries, one from each list, someone whom both entries name
-/// and who is in no other group. It follows that askers in at most two groups suffice. There is
+/// Two lists, each for a file with its own owners, grant everyone the same if they grant certain
+/// requesters the same: for each pair of entries, one from each list, a requester to whom both
+/// apply and who is in no other group. So requesters in at most two groups suffice. There is
 /// nothing to run here: a proof cites the contract.
 pub fn comparison_laws()
     ensures pairs { PairsSuffice }
     ensures two_groups { TwoGroupsSuffice }
 {}
 
-/// A mode that is set with the least denials (`chmod4_least`) doesn't keep a later one from those
-/// whom entries name. There is nothing to run here: a proof cites the contract.
+/// The denials of `chmod4_least` don't keep a later mode from those whom entries name. There is
+/// nothing to run here: a proof cites the contract.
 pub fn mode_laws()
     ensures { LaterModesLift }
 {}

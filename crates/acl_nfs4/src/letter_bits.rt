@@ -1,12 +1,12 @@
-//! The bit of each letter, by the letter's byte, so that a text takes one look for each of its
-//! letters.
+//! The bit of each letter, indexed by the letter's byte, so that reading takes one look-up a
+//! letter.
 
 ghost use Rattle.std.specs.Prelude.{◌≡◌, ◌<◌, List, slice_index};
 ghost use Rattle.acl_names.specs.Letters.{letters_of};
 ghost use Rattle.acl_names.specs.declared.text.letters.Letter.{Letter};
 ghost use Rattle.acl_nfs4.specs.LetterBits.{GivesBitsOf};
 
-/// The flag for which each byte stands as a letter; 0 where it stands for none.
+/// The flag whose letter is this byte; 0 for other bytes.
 pub(crate) const FLAG_BITS: [u32; 256] = [
     0, 0, 0, 0, 0, 0, 0, 0, 0, 0, 0, 0, 0, 0, 0, 0, 0, 0, 0, 0, 0, 0, 0, 0, 0, 0, 0, 0, 0, 0, 0, 0,
     0, 0, 0, 0, 0, 0, 0, 0, 0, 0, 0, 0, 0, 0, 0, 0, 0, 0, 0, 0, 0, 0, 0, 0, 0, 0, 0, 0, 0, 0, 0, 0,
@@ -19,7 +19,7 @@ pub(crate) const FLAG_BITS: [u32; 256] = [
     0, 0, 0, 0, 0, 0,
 ];
 
-/// The bit of a mask for which each byte stands as a letter; 0 where it stands for none.
+/// The mask's bit whose letter is this byte; 0 for other bytes.
 pub(crate) const MASK_BITS: [u32; 256] = [
     0, 0, 0, 0, 0, 0, 0, 0, 0, 0, 0, 0, 0, 0, 0, 0, 0, 0, 0, 0, 0, 0, 0, 0, 0, 0, 0, 0, 0, 0, 0, 0,
     0, 0, 0, 0, 0, 0, 0, 0, 0, 0, 0, 0, 0, 0, 0, 0, 0, 0, 0, 0, 0, 0, 0, 0, 0, 0, 0, 0, 0, 0, 0, 0,
@@ -32,7 +32,7 @@ pub(crate) const MASK_BITS: [u32; 256] = [
     0, 0, 0, 0, 0, 0, 0, 0, 0, 0, 0, 0, 0, 0, 0, 0, 0, 0, 0, 0,
 ];
 
-/// The bit of a letter, by the bits of all bytes.
+/// The bit of a letter in a table.
 fn bit_of_letter(bits: &[u32; 256], letter: u8) -> u32
     ensures value { result ≡ slice_index bits.now letter }
     ensures byte { letter < 256 }
@@ -40,8 +40,7 @@ fn bit_of_letter(bits: &[u32; 256], letter: u8) -> u32
     bits[usize::from(letter)]
 }
 
-/// The bits whose letters make up the text, with one look for each letter: none stands for a bit
-/// that is there already.
+/// The bits whose letters make up the text; `None` for another letter, or one that occurs twice.
 pub(crate) fn read_bits(bits_of: &[u32; 256], text: &[u8]) -> Option<u32>
     ensures { (table : List Letter) → GivesBitsOf bits_of.now table
         → result ≡ letters_of table text.now }

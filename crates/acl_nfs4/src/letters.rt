@@ -1,4 +1,4 @@
-//! The letters that flags and the bits of a mask have in texts.
+//! The letters of flags and of a mask's bits.
 
 ghost use Rattle.std.specs.Prelude.{◌≡◌, option_map};
 ghost use Rattle.acl_names.specs.Letters.{letters_of, letters_text};
@@ -105,8 +105,8 @@ const MASK_TABLE: [Letter; 14] = [
     },
 ];
 
-/// The mask whose letters make up the text, in any order, each at most once; no letters are the
-/// empty mask. The letters are `rwaxdDtTnNcCoy`.
+/// Reads the letters of a mask, out of `rwaxdDtTnNcCoy` in any order, each at most once; without
+/// letters it is empty. `None` for other texts.
 pub fn read_letters(text: &[u8]) -> Option<Mask>
     ensures { option_map mask_bits result ≡ letters_of mask_table text.now }
 {
@@ -116,7 +116,7 @@ pub fn read_letters(text: &[u8]) -> Option<Mask>
     }
 }
 
-/// The flags whose letters make up the text, in any order, each at most once, or none.
+/// Reads the letters of flags, in any order, each at most once. `None` for other texts.
 pub(crate) fn read_flags(text: &[u8]) -> Option<Flags>
     ensures { option_map flag_bits result ≡ letters_of flag_table text.now }
 {
@@ -126,8 +126,8 @@ pub(crate) fn read_flags(text: &[u8]) -> Option<Flags>
     }
 }
 
-/// Appends the letters of the mask's bits, in the order `rwaxdDtTnNcCoy`. If memory runs out, what
-/// was there stays; that happens only if `out` has no room for them.
+/// Appends the letters of the mask's bits, in the order `rwaxdDtTnNcCoy`. Fails only if memory runs
+/// out, and never if `out` has room for them; what `out` held stays in front.
 pub fn push_mask(mask: Mask, out: &mut Vec<u8>) -> Result<(), AllocError>
     ensures { PushesInRoom (letters_text mask_table (mask_bits mask)) result out.old out.new }
 {

@@ -3,10 +3,10 @@ ghost use Rattle.std.specs.Prelude.{◌≡◌};
 ghost use Rattle.acl_nfs4.specs.declared.limits.TheConstants.{INLINE_ACES, MAX_ACES};
 ghost use Rattle.acl_nfs4.specs.declared.marks.TheConstants.{MARKS};
 
-/// The most entries of an access control list.
+/// How many entries an access control list may have.
 pub const MAX_ACES: usize = 128;
 
-/// How many entries a list has in itself; with more it has them all in memory of their own.
+/// How many entries a list stores inline; a longer list has all of them on the heap.
 pub const INLINE_ACES: usize = 16;
 
 /// The limits as numbers. There is nothing to run here: a proof cites the contract.

@@ -1,4 +1,4 @@
-//! Marks of users and groups: a quick look whether a list may have an entry about someone.
+//! Marks of users and groups: a fast test whether a list may have an entry for somebody.
 ghost use Rattle.std.specs.Prelude.{◌≡◌, ◌<◌};
 ghost use Rattle.acl_nfs4.specs.Marks.{mark_of};
 
@@ -7,7 +7,7 @@ use crate::Who;
 /// How many marks there are.
 pub(crate) const MARKS: usize = 64;
 
-/// Which mark is that of a who. Those whose ids differ by a multiple of 64 share one.
+/// The mark of a `who`. Those whose ids differ by a multiple of 64 share one.
 pub(crate) fn mark_of(who: &Who) -> usize
     ensures value { result ≡ mark_of who.now }
     ensures within { result < MARKS }

@@ -1,4 +1,4 @@
-//! The mask of an entry: what it allows, denies or tells of (RFC 8881, section 6.2.1.3).
+//! The mask of an entry: what it allows, denies or watches (RFC 8881, section 6.2.1.3).
 ghost use Rattle.std.specs.Prelude.{⊤, ◌≡◌, [], ◌∷◌, codes};
 ghost use Rattle.acl_names.specs.Bits.{◌∩◌};
 ghost use Rattle.acl_posix.specs.Perms.{bits_of};
@@ -94,10 +94,10 @@ impl FlagSet for Mask {
 }
 
 impl Mask {
-    /// The bits that a file mode speaks of.
+    /// The bits that a file mode controls.
     pub(crate) const OF_MODE: Mask = Mask(0x27);
 
-    /// `WRITE_DATA` and `APPEND_DATA`, which a file mode knows as one permission.
+    /// `WRITE_DATA` and `APPEND_DATA`, which are one permission in a file mode.
     pub(crate) const WRITE: Mask = Mask(0x6);
 
     /// The bits that have a name.
@@ -108,8 +108,8 @@ impl Mask {
     }
 }
 
-/// The mask that stands for a file mode's permissions: to write stands for `WRITE_DATA` and
-/// `APPEND_DATA` together (RFC 8881, section 6.3.2).
+/// The mask of a file mode's permissions; `WRITE` is `WRITE_DATA` and `APPEND_DATA` (RFC 8881,
+/// section 6.3.2).
 pub fn mask_of(perms: Perms) -> Mask
     ensures { mask_bits result ≡ mask_of (bits_of perms) }
 {
@@ -119,7 +119,7 @@ pub fn mask_of(perms: Perms) -> Mask
     read.union(write).union(execute)
 }
 
-/// The mask of what a file mode's permissions lack: the rest of `mask_of(Perms::all())`.
+/// The mask of the permissions that are lacking: the rest of `mask_of(Perms::all())`.
 pub fn rest_of(perms: Perms) -> Mask
     ensures { mask_bits result ≡ rest_of (bits_of perms) }
 {

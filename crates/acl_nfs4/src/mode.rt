@@ -1,4 +1,4 @@
-//! The mode that a list shows (RFC 8881, section 6.3.2).
+//! The mode of a file with a list (RFC 8881, section 6.3.2).
 ghost use Rattle.std.specs.Prelude.{◌≡◌, ◌&&◌, ◌||◌, IsTrue, ℕ};
 ghost use Rattle.acl_names.specs.Bits.{has};
 ghost use Rattle.acl_posix.specs.Perms.{bits_of};
@@ -11,7 +11,8 @@ use acl_posix::{Mode, Perms, bits_if, without};
 use bitflags::Flags as FlagSet;
 
 impl Who {
-    /// Whether its entries tell the mode of one of `OWNER@`, `GROUP@` and `EVERYONE@`.
+    /// Whether the entry's `who` counts for the mode of this one of `OWNER@`, `GROUP@` and
+    /// `EVERYONE@`.
     fn is_of_class(&self, class: &Who) -> bool
         ensures { result ≡ of_class class.now self.now }
     {
@@ -20,16 +21,16 @@ impl Who {
 }
 
 impl Ace {
-    /// Whether the entry decides about a class of the mode.
-    fn tells_mode_of(&self, class: &Who) -> bool
+    /// Whether the entry allows or denies something in the mode of this class.
+    fn reports_mode_of(&self, class: &Who) -> bool
         ensures { result ≡ (decides self.now && of_class class.now self.now.who) }
     {
         self.decides() && self.who().is_of_class(class)
     }
 }
 
-/// The bits of the mode that the entries allow a class. It goes down the list once, until no bit is
-/// open.
+/// The bits of the mode that the entries allow a class. It reads the list once, until every bit is
+/// decided.
 fn allowed_to(aces: &[Ace], class: &Who) -> Mask
     ensures { (bit : ℕ) → IsTrue (has mode_bits bit)
         → has (mask_bits result) bit ≡ allows (of_class class.now) bit aces.now }
@@ -40,7 +41,7 @@ fn allowed_to(aces: &[Ace], class: &Who) -> Mask
         if open.is_empty() {
             return allowed;
         }
-        if ace.tells_mode_of(class) {
+        if ace.reports_mode_of(class) {
             if ace.kind().is_allow() {
                 allowed = allowed.union(open.intersection(ace.mask()));
             }
@@ -50,15 +51,15 @@ fn allowed_to(aces: &[Ace], class: &Who) -> Mask
     allowed
 }
 
-/// Whether it allows all that the mode's permission to write stands for.
+/// Whether all bits of the mode's permission to write are allowed.
 fn allows_writing(allowed: Mask) -> bool
     ensures { result ≡ (has (mask_bits allowed) write_data && has (mask_bits allowed) append_data) }
 {
     allowed.contains(Mask::WRITE_DATA) && allowed.contains(Mask::APPEND_DATA)
 }
 
-/// The permissions that the entries show for a class: to write if both `WRITE_DATA` and
-/// `APPEND_DATA` are allowed.
+/// The permissions of a class in the mode: to write if both `WRITE_DATA` and `APPEND_DATA` are
+/// allowed.
 fn shown_to(aces: &[Ace], class: &Who) -> Perms
     ensures { bits_of result ≡ shown_to (of_class class.now) aces.now }
 {

@@ -29,12 +29,12 @@ use acl_posix::{Mode, Perms, without};
 use bitflags::Flags as FlagSet;
 use std::alloc::Global;
 
-/// Why a mode was not set.
+/// Why a mode wasn't set.
 #[derive(Clone, Copy, Debug, PartialEq, Eq)]
 pub enum Fault4 {
     /// The list would have more than 128 entries.
     TooMany,
-    /// An allocation failed.
+    /// Memory ran out.
     Memory,
 }
 
@@ -44,7 +44,7 @@ impl Ace {
     ghost use Rattle.acl_nfs4.specs.Ace.{IsAce, is_inheritable};
     ghost use Rattle.acl_nfs4.specs.Flags.{inherit_only, inheritance_flags};
 
-    /// What an entry that decides keeps of its mask beside a mode with this group.
+    /// The part of the mask that an allowing or denying entry keeps, under a mode with this group.
     #[tactic(auto, unfolding(crate::specs::ModeChange::kept_mask))]
     fn kept_mask(&self, group: Perms) -> Mask
         ensures value { mask_bits result ≡ kept_mask (bits_of group) self.now }
@@ -59,7 +59,7 @@ impl Ace {
         }
     }
 
-    /// The entry with no more of its mask than it keeps.
+    /// The entry with the part of its mask that it keeps.
     fn with_kept_mask(&self, group: Perms) -> Ace
         ensures { result ≡ record self.now { mask = kept_mask (bits_of group) self.now } }
     {
@@ -75,7 +75,7 @@ impl Ace {
         self.with_flags(self.flags().union(Flags::INHERIT_ONLY))
     }
 
-    /// The part of the entry that takes effect where it stands.
+    /// The part of the entry that has an effect on the file itself.
     fn effective_part(&self, group: Perms) -> Ace
         ensures value { result ≡ record self.now {
           flags = without self.now.flags inheritance_flags;
@@ -87,21 +87,21 @@ impl Ace {
             .with_flags(self.flags().without_inheritance())
     }
 
-    /// Whether the entry decides about a named user or group.
+    /// Whether the entry allows or denies a user or group by id something.
     fn names_someone(&self) -> bool
         ensures { result ≡ names_someone self.now }
     {
         self.decides() && !self.who().is_special()
     }
 
-    /// Whether the entry decides about this who by name.
+    /// Whether the entry allows or denies this user or group by id something.
     fn names(&self, who: &Who) -> bool
         ensures { result ≡ names who.now self.now }
     {
         self.names_someone() && self.who().is(who)
     }
 
-    /// Whether the entry denies this who something by name.
+    /// Whether the entry denies this user or group by id something.
     fn denies(&self, who: &Who) -> bool
         ensures { result ≡ denies_by_name who.now self.now }
     {
@@ -109,8 +109,8 @@ impl Ace {
     }
 }
 
-/// In front: what the mode's user has is allowed to the owner, and the rest of the mode's bits
-/// denied.
+/// The entries in front: the owner is allowed what the mode's user has, and denied the mode's other
+/// bits.
 fn push_owner<const N: usize>(draft: &mut Draft<N>, user: Perms) -> Result<(), Full>
     ensures ok { OnOk result (draft.new ≡ draft.old ++ for_owner (bits_of user)) }
     ensures full { OnErr result (IsTooLong N (draft.old ++ for_owner (bits_of user))) }
@@ -119,7 +119,8 @@ fn push_owner<const N: usize>(draft: &mut Draft<N>, user: Perms) -> Result<(), F
     draft.push_plain(AceType::Deny, Who::Owner, rest_of(user))
 }
 
-/// Behind: the same for the group, and what the mode's others have is allowed to everyone.
+/// The entries at the end: the same for the group, and everyone is allowed what the mode's others
+/// have.
 fn push_others<const N: usize>(draft: &mut Draft<N>, group: Perms, other: Perms) -> Result<(), Full>
     ensures ok { OnOk result (draft.new ≡ draft.old ++ for_others (bits_of group) (bits_of other)) }
     ensures full { OnErr result (IsTooLong N (draft.old
@@ -130,8 +131,8 @@ fn push_others<const N: usize>(draft: &mut Draft<N>, group: Perms, other: Perms)
     draft.push_plain(AceType::Allow, Who::Everyone, mask_of(other))
 }
 
-/// What an entry leaves: one that doesn't decide stays; one that is inherited too becomes one entry
-/// for each; and what takes effect keeps no bit that the mode takes.
+/// Appends what is left of an entry: one that doesn't allow or deny stays; one that is inherited
+/// too becomes two, of which one is inherit-only; and what takes effect here loses the mode's bits.
 fn push_kept_of<const N: usize>(draft: &mut Draft<N>, ace: &Ace, group: Perms) -> Result<(), Full>
     requires { is_idle ace.now ≡ false }
     ensures ok { OnOk result (draft.new ≡ draft.old ++ kept_of_entry (bits_of group) ace.now) }
@@ -147,7 +148,7 @@ fn push_kept_of<const N: usize>(draft: &mut Draft<N>, ace: &Ace, group: Perms) -
     draft.push_unless_empty(ace.with_kept_mask(group))
 }
 
-/// What the old entries leave.
+/// Appends what is left of the old entries.
 fn push_kept<const N: usize>(draft: &mut Draft<N>, aces: &[Ace], group: Perms) -> Result<(), Full>
     requires { HaveEffect aces.now }
     ensures ok { OnOk result (draft.new ≡ draft.old ++ kept_of_list (bits_of group) aces.now) }
@@ -159,14 +160,14 @@ fn push_kept<const N: usize>(draft: &mut Draft<N>, aces: &[Ace], group: Perms) -
     Ok(())
 }
 
-/// Whether an entry decides about this who by name.
+/// Whether an entry allows or denies this user or group by id something.
 fn any_names(aces: &[Ace], who: &Who) -> bool
     ensures { result ≡ list_any (names who.now) aces.now }
 {
     aces.iter().any(|ace| ace.names(who))
 }
 
-/// The bits that the entries deny this who by name.
+/// The bits that the entries deny this user or group by id.
 fn denied_to(aces: &[Ace], who: &Who) -> Mask
     ensures { mask_bits result ≡ denied_to who.now aces.now }
 {
@@ -179,7 +180,7 @@ fn denied_to(aces: &[Ace], who: &Who) -> Mask
     denied
 }
 
-/// Whether an entry decides about this who by name, by the marks of those about whom one does.
+/// Like `any_names`, and fast if no entry with an id has the mark of this one.
 fn any_marked_names(aces: &[Ace], named: &[bool; MARKS], who: &Who) -> bool
     requires { IsMarked names named.now aces.now }
     ensures { result ≡ list_any (names who.now) aces.now }
@@ -187,7 +188,7 @@ fn any_marked_names(aces: &[Ace], named: &[bool; MARKS], who: &Who) -> bool
     named[mark_of(who)] && any_names(aces, who)
 }
 
-/// The marks of those whom the entries deny something by name.
+/// The marks of the users and groups to whom the entries deny something by id.
 fn marks_of_denied(aces: &[Ace]) -> [bool; MARKS]
     ensures { IsMarked denies_by_name result aces.now }
 {
@@ -200,7 +201,7 @@ fn marks_of_denied(aces: &[Ace]) -> [bool; MARKS]
     denied
 }
 
-/// The bits that the entries deny this who by name, by the marks of those to whom they deny any.
+/// Like `denied_to`, and fast if no denial has the mark of this user or group.
 fn marked_denied_to(aces: &[Ace], denied: &[bool; MARKS], who: &Who) -> Mask
     requires { IsMarked denies_by_name denied.now aces.now }
     ensures { mask_bits result ≡ denied_to who.now aces.now }
@@ -212,7 +213,7 @@ fn marked_denied_to(aces: &[Ace], denied: &[bool; MARKS], who: &Who) -> Mask
     }
 }
 
-/// These bits, denied to this who as far as the old entries don't.
+/// Appends a denial of those of the bits that the old entries don't deny this user or group by id.
 fn push_denial<const N: usize>(
     draft: &mut Draft<N>,
     aces: &[Ace],
@@ -229,11 +230,12 @@ fn push_denial<const N: usize>(
     draft.push_plain(AceType::Deny, who, without(bits, denied))
 }
 
-/// A denial for each who that the old entries name, in the order of its first entry.
+/// Appends a denial for each user and group that the old entries name by id, in the order of its
+/// first entry.
 ///
-/// For an entry that names someone whose mark stands this looks at the entries before it, and for
-/// each who whose mark stands among the denied at all entries. The list has at most 128 of them; to
-/// sort them by who and back would cost a second list.
+/// For an entry whose mark has occurred before, this reads the entries before it, and for each user
+/// or group whose mark is among the denied, all entries. The list has at most 128; sorting them and
+/// restoring the order would cost a second list.
 fn push_denials<const N: usize>(draft: &mut Draft<N>, aces: &[Ace], bits: Mask) -> Result<(), Full>
     requires { mask_bits bits ∩ all_masks ≡ mask_bits bits }
     ensures ok { OnOk result (draft.new ≡ draft.old ++ denials (mask_bits bits) aces.now) }
@@ -251,7 +253,7 @@ fn push_denials<const N: usize>(draft: &mut Draft<N>, aces: &[Ace], bits: Mask) 
     Ok(())
 }
 
-/// The entries with the mode set, and these bits denied to those whom they name.
+/// The entries with the mode set, and with these bits denied to those whom they name by id.
 fn with_denials<const N: usize>(
     alloc: Global,
     aces: &[Ace],
@@ -274,8 +276,8 @@ fn with_denials<const N: usize>(
     Ok(draft)
 }
 
-/// Why the mode was not set: the list would have too many entries, or else memory ran out. It is
-/// made again to know it, if it needs no memory.
+/// Why the mode wasn't set: the list would have too many entries, or else memory ran out. To find
+/// out, it makes the list again without taking memory.
 #[cold]
 #[inline(never)]
 fn why_refused(alloc: Global, aces: &[Ace], mode: Mode, bits: Mask) -> Fault4
@@ -290,7 +292,7 @@ fn why_refused(alloc: Global, aces: &[Ace], mode: Mode, bits: Mask) -> Fault4
     }
 }
 
-/// What the mode's group lacks.
+/// The bits that the mode's group lacks.
 fn lacking(mode: Mode) -> Mask
     ensures value { mask_bits result ≡ rest_of mode.group }
     ensures known { mask_bits result ∩ all_masks ≡ mask_bits result }
@@ -299,7 +301,7 @@ fn lacking(mode: Mode) -> Mask
     rest_of(mode.group)
 }
 
-/// What the mode's others have and its group lacks.
+/// The bits that the mode's others have and its group lacks.
 fn beyond_group(mode: Mode) -> Mask
     ensures value { mask_bits result ≡ beyond_group mode }
     ensures known { mask_bits result ∩ all_masks ≡ mask_bits result }
@@ -311,14 +313,14 @@ fn beyond_group(mode: Mode) -> Mask
 impl Acl4 {
     /// Sets the mode and keeps what the administrator wrote (within RFC 8881, section 6.4.1.1).
     ///
-    /// The entries that allow or deny lose the bits of the mode that they may not grant; the
-    /// owner's stand before them, and the group's and everyone's after. Users and groups that an
-    /// entry names are granted no more than the mode's group. An entry that is inherited too is
-    /// split, so that what is inherited stays as it was. Audit and alarm entries and entries that
-    /// are only inherited stay. The steps are written out in `docs/PROFILE.md`.
+    /// Entries for the owner are put in front of the old ones, and those for the group and everyone
+    /// at the end; the old entries that allow or deny lose the bits of the mode that they may not
+    /// grant. Users and groups that an entry names are granted no more than the mode's group. An
+    /// entry that is also inherited is split, so that what is inherited stays as it was. Audit and
+    /// alarm entries and inherit-only entries stay. `docs/PROFILE.md` has the steps.
     ///
-    /// It is refused with `TooMany` exactly if the list would have more than 128 entries, and else
-    /// with `Memory`; the list is as before then.
+    /// Fails with `TooMany` exactly if the list would have more than 128 entries, and else with
+    /// `Memory` if memory runs out; then the list stays as it was.
     pub fn chmod4(&mut self, alloc: Global, mode: Mode) -> Result<(), Fault4>
         ensures ok { OnOk result (self.new ≡ with_mode self.old mode) }
         ensures too_many { (result ≡ Err Fault4.TooMany)
@@ -326,18 +328,18 @@ impl Acl4 {
         ensures err { OnErr result (self.new ≡ self.old) }
         ensures short { length (with_mode self.old mode) ≤ INLINE_ACES → IsOk result }
 
-        // The mode shown is the mode set.
+        // `mode4` returns the mode that was set.
         ensures shown { OnOk result (mode_of self.new ≡ mode) }
 
-        // Of the mode's bits the owner is granted the user's, and another requester whom no entry
-        // names the group's or the others'; one whom an entry names is granted none that the group
-        // lacks.
+        // Of the mode's bits the owner is granted the user's, and a requester whom no entry names
+        // is granted the group's or the others'; one whom an entry names is granted none that the
+        // group lacks.
         ensures owner_granted { OnOk result (GrantsOwner self.new mode) }
         ensures group_granted { OnOk result (GrantsGroup self.old self.new mode) }
         ensures others_granted { OnOk result (GrantsOthers self.old self.new mode) }
         ensures named_limited { OnOk result (LimitsNamed self.old self.new mode) }
 
-        // What the mode doesn't speak of stays.
+        // What the mode doesn't control stays.
         ensures audits_kept { OnOk result (KeepsAudits self.old self.new) }
         ensures inherit_only_kept { OnOk result (KeepsInheritOnly self.old self.new) }
         ensures inherits_alike { OnOk result (InheritsAlike self.old self.new) }
@@ -351,12 +353,12 @@ impl Acl4 {
         }
     }
 
-    /// Sets the mode as `chmod4` does, and denies those whom entries name no more than it takes:
-    /// what the mode's others have and its group lacks, mostly nothing. Whoever asks, the list
-    /// decides each bit as the one that `chmod4` makes. But a mode that is set later gives those
-    /// who are named what it gives anybody else, where `chmod4` leaves them denied.
+    /// Sets the mode as `chmod4` does, but denies those whom entries name no more than necessary:
+    /// what the mode's others have and its group lacks, which is mostly nothing. The list grants
+    /// every requester what the list of `chmod4` grants. But a mode that is set later gives those
+    /// whom entries name what it gives everyone, where `chmod4` leaves them denied.
     ///
-    /// It is refused as `chmod4` refuses.
+    /// Fails as `chmod4` does.
     pub fn chmod4_least(&mut self, alloc: Global, mode: Mode) -> Result<(), Fault4>
         ensures ok { OnOk result (self.new ≡ with_mode_least self.old mode) }
         ensures too_many { (result ≡ Err Fault4.TooMany)
@@ -364,21 +366,21 @@ impl Acl4 {
         ensures err { OnErr result (self.new ≡ self.old) }
         ensures short { length (with_mode_least self.old mode) ≤ INLINE_ACES → IsOk result }
 
-        // Whoever asks, each bit is decided as `chmod4` would have it.
+        // Each bit is granted to a requester exactly if the list of `chmod4` grants it.
         ensures alike { OnOk result (DecideEachAlike self.new (with_mode self.old mode)) }
 
         // If the mode's others have no more than its group, nobody is denied anything by name.
         ensures undenied { OnOk result (beyond_group mode ≡ 0
             → self.new ≡ without_denials self.old mode) }
 
-        // The mode shown is the mode set, and who is granted what is as there.
+        // `mode4` returns the mode that was set, and requesters are granted what they are there.
         ensures shown { OnOk result (mode_of self.new ≡ mode) }
         ensures owner_granted { OnOk result (GrantsOwner self.new mode) }
         ensures group_granted { OnOk result (GrantsGroup self.old self.new mode) }
         ensures others_granted { OnOk result (GrantsOthers self.old self.new mode) }
         ensures named_limited { OnOk result (LimitsNamed self.old self.new mode) }
 
-        // What the mode doesn't speak of stays.
+        // What the mode doesn't control stays.
         ensures audits_kept { OnOk result (KeepsAudits self.old self.new) }
         ensures inherit_only_kept { OnOk result (KeepsInheritOnly self.old self.new) }
         ensures inherits_alike { OnOk result (InheritsAlike self.old self.new) }
@@ -392,7 +394,7 @@ impl Acl4 {
         }
     }
 
-    /// Sets the mode, and denies these bits to those whom the list names.
+    /// Sets the mode, and denies these bits to those whom the list names by id.
     fn set_mode(&mut self, alloc: Global, mode: Mode, bits: Mask) -> Result<(), Fault4>
         requires { mask_bits bits ∩ all_masks ≡ mask_bits bits }
         ensures ok { OnOk result (self.new ≡ with_denials (mask_bits bits) self.old mode) }

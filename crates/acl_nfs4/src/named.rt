@@ -1,4 +1,4 @@
-//! Reading entries by any names.
+//! Reading entries with the names of any resolver.
 
 ghost use Rattle.std.specs.Prelude.{◌≡◌, ◌≢◌, ◌≤◌, ℕ, List, Some, length};
 ghost use Rattle.std.specs.Prelude.{IfOk, IfErr, MatchResult};
@@ -20,7 +20,7 @@ use crate::{Ace, AceFault, Acl4, PieceFault, Who};
 use acl_names::{Gid, NameFault, PieceReader, ResolveNames, Uid, read_list};
 use std::alloc::Global;
 
-/// Reads entries by these names.
+/// Reads entries, and resolves their names by `names`.
 #[derive(Drop)]
 pub struct NamedAceReader<'a, N: ResolveNames> {
     pub names: &'a N,
@@ -52,7 +52,7 @@ impl<'a, N: ResolveNames> PieceReader for NamedAceReader<'a, N> {
     }
 }
 
-/// What a piece of these fields says.
+/// The entry that a piece with these fields means, or its fault.
 #[tactic(auto, unfolding(crate::specs::NamedAces::ace_by))]
 fn ace_of_fields<N: ResolveNames>(names: &N, fields: AceFields<'_>) -> Result<Ace, PieceFault>
     ensures { (piece : List ℕ) → fields_of piece ≡ Some (view_fields fields.entry)
@@ -65,7 +65,7 @@ fn ace_of_fields<N: ResolveNames>(names: &N, fields: AceFields<'_>) -> Result<Ac
     refuse_idle(Ace::new(kind, flags, who, mask))
 }
 
-/// Whom the field of an entry names: a special identifier, a user, or with the flag `g` a group.
+/// Whom a field names: a special identifier, a user, or with the flag `g` a group.
 fn read_who<N: ResolveNames>(names: &N, is_group: bool, text: &[u8]) -> Result<Who, PieceFault>
     ensures { result ≡ who_by (N.names names.now) is_group text.now }
 {
@@ -90,9 +90,8 @@ fn read_special(text: &[u8]) -> Option<Who>
     None
 }
 
-/// The user who is written, or the group.
-///
-/// `Syntax` if it is neither an id nor a name, `UnknownName` if it is a name that nobody has.
+/// The user, or the group, that the text writes. Fails with `Syntax` if it is neither an id nor a
+/// name, and with `UnknownName` if no user, or no group, has the name.
 pub fn named_who<N: ResolveNames>(names: &N, is_group: bool, text: &[u8]) -> Result<Who, PieceFault>
     ensures { result ≡ named_who (N.names names.now) is_group text.now }
 {
@@ -103,6 +102,7 @@ pub fn named_who<N: ResolveNames>(names: &N, is_group: bool, text: &[u8]) -> Res
     }
 }
 
+/// The user with the uid that was found, or the fault of the piece.
 fn user_with(found: Result<Uid, NameFault>) -> Result<Who, PieceFault>
     ensures { result ≡ who_with (λ uid. Who.User uid) found }
 {
@@ -113,6 +113,7 @@ fn user_with(found: Result<Uid, NameFault>) -> Result<Who, PieceFault>
     }
 }
 
+/// The group with the gid that was found, or the fault of the piece.
 fn group_with(found: Result<Gid, NameFault>) -> Result<Who, PieceFault>
     ensures { result ≡ who_with (λ gid. Who.NamedGroup gid) found }
 {
@@ -123,11 +124,11 @@ fn group_with(found: Result<Gid, NameFault>) -> Result<Who, PieceFault>
     }
 }
 
-/// The list that the text spells, as `read_aces` reads it, but that these names say who is meant: a
-/// `who` is `OWNER@`, `GROUP@`, `EVERYONE@`, or an id or a name as they write it.
+/// Reads a list as `read_aces` does, but resolves names by `names`: a `who` is `OWNER@`, `GROUP@`,
+/// `EVERYONE@`, or an id or a name as they write it.
 ///
-/// The first faulty piece decides: `Syntax`, before `UnknownName`, before `InheritOnly`; a 129th
-/// piece is `TooMany` before it is read. `Memory` comes only if memory runs out.
+/// The first faulty piece decides the fault: `Syntax`, else `UnknownName`, else `InheritOnly`; a
+/// 129th piece is `TooMany` before it is read. `Memory` means that memory ran out.
 pub fn read_aces_by<N: ResolveNames>(
     alloc: Global,
     text: &[u8],
@@ -136,7 +137,7 @@ pub fn read_aces_by<N: ResolveNames>(
     ensures read { IfOk result (Spells (ace_by (N.names names.now)) MAX_ACES text.now) }
     ensures fault { IfErr result (IsFaultBy (N.names names.now) text.now) }
 
-    // What is spelt is read, unless memory runs out.
+    // A text that spells a list is read, unless memory runs out.
     ensures only { (aces : List Nfsace4)
         → Spells (ace_by (N.names names.now)) MAX_ACES text.now aces
         → MatchResult result (λ acl. acl ≡ aces) (λ fault. fault ≡ Memory) }

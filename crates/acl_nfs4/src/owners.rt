@@ -1,7 +1,7 @@
-//! Who owns a file.
+//! The owner and the group of a file.
 use acl_names::{Gid, Uid};
 
-/// Who owns a file: a user, and a group.
+/// The owner and the group of a file.
 #[derive(Clone, Copy, Debug, PartialEq, Eq)]
 pub struct Owners {
     /// The file's owner.

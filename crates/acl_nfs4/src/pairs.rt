@@ -1,5 +1,5 @@
-//! Whom to ask to know whether two lists decide alike for everyone: the askers of all pairs of
-//! their entries.
+//! The requesters who decide whether two lists grant everyone the same: one for each pair of
+//! entries.
 ghost use Rattle.std.specs.Prelude.{◌≡◌, ◌≤◌, ◌+◌, ◌||◌, IfNone, IfSome, MatchOption, length};
 ghost use Rattle.acl_names.specs.Asker.{identity_of};
 ghost use Rattle.acl_names.specs.declared.limits.TheConstants.{MAX_ID};
@@ -18,10 +18,10 @@ pub trait AboutWho {
     ghost use Rattle.std.specs.Prelude.{◌≡◌};
     ghost use Rattle.acl_nfs4.specs.declared.who.Who.{Who};
 
-    /// Whom the entry is about.
+    /// Whom the entry is for.
     ghost who: { Self → Who };
 
-    /// Whom the entry is about.
+    /// Whom the entry is for.
     fn who(&self) -> Who
         ensures { result ≡ who self.now };
 }
@@ -51,28 +51,28 @@ impl AboutWho for Entry {
     }
 }
 
-/// Two lists that can be asked about one asker after the other.
+/// Two lists that are evaluated for one requester after the other.
 pub trait Compared {
     ghost use Rattle.std.specs.Prelude.{MatchOption};
     ghost use Rattle.acl_names.specs.Asker.{identity_of};
     ghost use Rattle.acl_names.specs.Requester.{Identity};
 
-    /// For whom they decide differently, and what.
+    /// A requester whom they grant different bits, and which.
     type Difference;
 
-    /// Both decide alike for this one.
+    /// Both grant this requester the same.
     ghost Alike: { Self → Identity → Type 0 };
 
-    /// They decide differently as it tells.
+    /// They differ in what this difference says.
     ghost Differs: { Self → Self.Difference → Type 0 };
 
-    /// What they decide differently for the asker.
+    /// What the lists grant the requester differently; `None` if they don't.
     fn difference(&self, asker: &Asker) -> Option<Self::Difference>
         ensures { MatchOption result (Alike self.now (identity_of asker.now)) (Differs self.now) };
 }
 
-/// Who asks of two lists: whoever the entries are for on files of these owners, and else a user for
-/// whom no entry asks.
+/// The owners of the two files, and the stranger: the uid of a requester to whom no entry for a
+/// user applies.
 #[derive(Clone, Copy)]
 struct Askers {
     owners: Owners,
@@ -81,7 +81,7 @@ struct Askers {
 }
 
 impl Who {
-    /// The user that one has to be for an entry about this to apply.
+    /// The only uid to which an entry for this `who` applies, if there is only one.
     fn needed_uid(&self, owner: Uid) -> Option<Uid>
         ensures { result ≡ needed_uid owner self.now }
     {
@@ -94,7 +94,7 @@ impl Who {
         }
     }
 
-    /// The group that one has to be in.
+    /// The group that a requester must be in for an entry for this `who` to apply, if any.
     fn needed_gid(&self, group: Gid) -> Option<Gid>
         ensures { result ≡ needed_gid group self.now }
     {
@@ -107,7 +107,7 @@ impl Who {
         }
     }
 
-    /// Whether one has to be this user.
+    /// Whether an entry for this `who` applies to this user alone.
     fn needs_user(&self, owner: Uid, uid: Uid) -> bool
         ensures { result ≡ needs_user owner uid self.now }
     {
@@ -121,9 +121,9 @@ impl Who {
     }
 }
 
-/// Someone to whom an entry for `who` applies on a file of the owners, and an entry for `other` on
-/// a file of the other owners, if there is anybody. Its uid is the stranger's if neither requires a
-/// particular user.
+/// A requester to whom an entry for `who` applies on a file of the owners, and an entry for `other`
+/// on a file of the other owners, if there is one. Its uid is the stranger's if neither requires a
+/// uid.
 fn asker_for(askers: &Askers, who: &Who, other: &Who) -> Asker
     ensures { identity_of result ≡ asker_for askers.now.owners askers.now.other_owners
         askers.now.stranger who.now other.now }
@@ -142,7 +142,7 @@ fn asker_for(askers: &Askers, who: &Who, other: &Who) -> Asker
     }
 }
 
-/// Whether one of the entries asks for this user.
+/// Whether one of the entries applies to this user alone.
 fn asks_for<E: AboutWho>(entries: &[E], owner: Uid, uid: Uid) -> bool
     ensures { result ≡ asks_for E.who owner uid entries.now }
 {
@@ -151,7 +151,7 @@ fn asks_for<E: AboutWho>(entries: &[E], owner: Uid, uid: Uid) -> bool
         .any(|entry| entry.who().needs_user(owner, uid))
 }
 
-/// Whether one of these is this user.
+/// Whether one of the requesters is this user.
 fn has_user(known: &[Requester], uid: Uid) -> bool
     ensures { result ≡ has_user known.now uid }
 {
@@ -165,8 +165,8 @@ pub fn is_known(known: &[Requester], uid: Uid) -> bool
     uid.value() == 0 || has_user(known, uid)
 }
 
-/// The number of the user who is tried at this place: from nobody's number downwards, since low
-/// numbers are those of people and of root, and then upwards.
+/// The uid that is tried at this place: from that of `nobody` downwards, since low uids are those
+/// of people and of root, and then upwards.
 fn tried(place: u32) -> u32
     requires { place ≤ MAX_ID }
     ensures value { result ≡ tried place }
@@ -179,7 +179,7 @@ fn tried(place: u32) -> u32
     }
 }
 
-/// Whether an entry requires this user, each list for a file of its own owner.
+/// Whether an entry applies to this user alone, each list for a file of its own owner.
 fn is_needed<E: AboutWho>(first: &[E], owner: Uid, second: &[E], other_owner: Uid, uid: Uid) -> bool
     ensures { result ≡ is_needed E.who first.now owner second.now other_owner uid }
 {
@@ -187,8 +187,8 @@ fn is_needed<E: AboutWho>(first: &[E], owner: Uid, second: &[E], other_owner: Ui
 }
 
 /// A uid that no entry requires, each list for a file of its own owner, and that is neither 0 nor
-/// that of one of these. Each entry requires one at most, so there is one unless nearly all ids are
-/// those of these.
+/// that of a known requester. Each entry requires one at most, so `None` only if nearly all ids are
+/// known.
 pub fn stranger<E: AboutWho>(
     first: &[E],
     owner: Uid,
@@ -211,7 +211,7 @@ pub fn stranger<E: AboutWho>(
     None
 }
 
-/// What the lists decide differently for the asker of these two.
+/// What the lists grant differently to the requester for these two.
 fn difference_at<L: Compared>(
     lists: &L,
     askers: &Askers,
@@ -226,7 +226,8 @@ fn difference_at<L: Compared>(
     lists.difference(&asker_for(askers, who, other))
 }
 
-/// What the lists decide differently for the asker of this one and of an entry of the second list.
+/// What the lists grant differently to the requester for this `who` and an entry of the second
+/// list.
 fn difference_for<E: AboutWho, L: Compared>(
     lists: &L,
     second: &[E],
@@ -246,7 +247,7 @@ fn difference_for<E: AboutWho, L: Compared>(
     difference_at(lists, askers, who, &Who::Everyone)
 }
 
-/// What the lists decide differently for the asker of an entry of each.
+/// What the lists grant differently to the requester for an entry of each.
 fn difference_of<E: AboutWho, L: Compared>(
     lists: &L,
     first: &[E],
@@ -266,9 +267,9 @@ fn difference_of<E: AboutWho, L: Compared>(
     difference_for(lists, second, askers, &Who::Everyone)
 }
 
-/// What two lists decide differently for the asker of a pair of entries, one of each, each list for
-/// a file of its own owners. Where neither asks for a user, it is this stranger. It takes no
-/// memory.
+/// What two lists grant differently to the requester for a pair of entries, one of each, each list
+/// for a file of its own owners. If neither entry requires a uid, the requester's is `stranger`. It
+/// takes no memory.
 pub fn difference_with<E: AboutWho, L: Compared>(
     lists: &L,
     first: &[E],
@@ -290,9 +291,9 @@ pub fn difference_with<E: AboutWho, L: Compared>(
     difference_of(lists, first, second, &askers)
 }
 
-/// What two lists decide differently for the asker of a pair of entries, one of each: the lists of
-/// these entries, at most 128 each (`MAX_ACES`), each for a file of its own owners. It takes no
-/// memory.
+/// What two lists grant differently to the requester for a pair of entries, one of each. The lists
+/// have at most 128 entries each (`MAX_ACES`), and each is for a file of its own owners. It takes
+/// no memory.
 pub fn difference_by_pairs<E: AboutWho, L: Compared>(
     lists: &L,
     first: &[E],

@@ -17,23 +17,23 @@ use crate::{Ace, AceType, Acl4, Who};
 use acl_names::{Directory, push_decimal};
 use std::alloc::AllocError;
 
-/// The length to reserve for each line; longer lines are rare.
+/// The length to reserve for each line; few lines are longer.
 const USUAL_LINE: usize = 32;
 
-/// How many bytes each line has at the least: a type, three colons and a newline.
+/// How many bytes the shortest line has: a type, three colons and a newline.
 const SHORTEST_LINE: usize = 5;
 
 impl Acl4 {
-    /// Appends the entries in order, one per line: `type:flags:who:letters` and a newline. `who` is
-    /// the special word, `name@domain` if the directory has a name, and else a decimal. If memory
-    /// runs out, `out` is as it was; that happens only if `out` has no room for the text.
+    /// Appends the entries in order, one a line: `type:flags:who:letters` and a newline. `who` is
+    /// the special word, `name@domain` if the directory has a name, and else a decimal. Fails only
+    /// if memory runs out, and never if `out` has room for the text; then `out` is as it was.
     pub fn print_aces(&self, directory: &Directory, out: &mut Vec<u8>) -> Result<(), AllocError>
         ensures text { OnOk result (out.new.items
             ≡ out.old.items ++ aces_text directory.now self.now) }
         ensures unchanged { OnErr result (out.new.items ≡ out.old.items) }
         ensures room { OnErr result (vec_capacity out.old
             < vec_len out.old + length (aces_text directory.now self.now)) }
-        // What is printed is read as these entries.
+        // The text is read as these entries.
         ensures read_again { OnOk result (Spells (piece_value directory.now) MAX_ACES
             (aces_text directory.now self.now) self.now) }
     {
@@ -49,7 +49,7 @@ impl Acl4 {
     }
 }
 
-/// Asks for room for so many usual lines at once, if `out` lacks it even for the shortest.
+/// Reserves room for `count` usual lines, if `out` lacks it even for the shortest.
 fn ask_for_lines(count: usize, out: &mut Vec<u8>) -> Result<(), AllocError>
     requires { count ≤ MAX_ACES }
     ensures items { out.new.items ≡ out.old.items }
@@ -82,8 +82,8 @@ fn push_line(ace: &Ace, directory: &Directory, out: &mut Vec<u8>) -> Result<(), 
     Ok(())
 }
 
-/// Appends the entry as `print_aces` does, without a newline: `type:flags:who:letters`. If memory
-/// runs out, what was there stays; that happens only if `out` has no room for the text.
+/// Appends the entry as `print_aces` does, without a newline: `type:flags:who:letters`. Fails only
+/// if memory runs out, and never if `out` has room for the text; what `out` held stays in front.
 pub fn push_ace(ace: &Ace, directory: &Directory, out: &mut Vec<u8>) -> Result<(), AllocError>
     ensures printed { PushesInRoom (ace_text directory.now ace.now) result out.old out.new }
     ensures has_id { OnOk result (HasId ace.now.who) }
@@ -140,7 +140,7 @@ fn push_who(who: &Who, directory: &Directory, out: &mut Vec<u8>) -> Result<(), A
     }
 }
 
-/// Appends the name in the domain, or the decimal of an id that has none.
+/// Appends the name in the domain, or the id in decimal if `name` is `None`.
 fn push_named(
     name: Option<&str>,
     domain: &str,

@@ -50,7 +50,7 @@ pub(crate) struct AceFields<'a> {
     pub letters: &'a [u8],
 }
 
-/// Reads entries whose names a directory knows.
+/// Reads entries, and resolves their names by a directory.
 #[derive(Drop)]
 pub struct AceReader<'a> {
     pub directory: &'a Directory,
@@ -82,7 +82,7 @@ impl<'a> PieceReader for AceReader<'a> {
     }
 }
 
-/// What a piece of these fields says.
+/// The entry that a piece with these fields means, or its fault.
 #[inline(always)]
 #[tactic(auto, unfolding(crate::specs::AceText::piece_value))]
 fn value_of_fields(directory: &Directory, fields: AceFields<'_>) -> Result<Ace, PieceFault>
@@ -99,18 +99,18 @@ fn value_of_fields(directory: &Directory, fields: AceFields<'_>) -> Result<Ace, 
     refuse_idle(Ace::new(kind, flags, who, mask))
 }
 
-/// The list that the text spells: entries `type:flags:who:letters`, which newlines and commas
-/// separate; `#` begins a comment. `who` is `OWNER@`, `GROUP@`, `EVERYONE@`, a decimal, a name, or
-/// a name in the directory's domain; it is a group if the flag `g` stands.
+/// Reads a list: entries `type:flags:who:letters`, separated by newlines and commas; `#` begins a
+/// comment. `who` is `OWNER@`, `GROUP@`, `EVERYONE@`, a decimal, a name, or a name in the
+/// directory's domain; it is a group if the flags have `g`.
 ///
-/// The first faulty piece decides: `Syntax`, before `UnknownName` (also of a name in another
-/// domain), before `InheritOnly`; a 129th piece is `TooMany` before it is read. `Memory` comes only
-/// if memory runs out.
+/// The first faulty piece decides the fault: `Syntax`, else `UnknownName` (also for a name in
+/// another domain), else `InheritOnly`; a 129th piece is `TooMany` before it is read. `Memory`
+/// means that memory ran out.
 pub fn read_aces(alloc: Global, text: &[u8], directory: &Directory) -> Result<Acl4, AceFault>
     ensures read { IfOk result (Spells (piece_value directory.now) MAX_ACES text.now) }
     ensures fault { IfErr result (IsTextFault directory.now text.now) }
 
-    // What is spelt is read, unless memory runs out.
+    // A text that spells a list is read, unless memory runs out.
     ensures only { (aces : List Nfsace4) → Spells (piece_value directory.now) MAX_ACES text.now aces
         → MatchResult result (λ acl. acl ≡ aces) (λ fault. fault ≡ Memory) }
     ensures short { length (pieces text.now) ≤ INLINE_ACES → IfErr result (λ fault. fault ≢ Memory) }
@@ -154,7 +154,8 @@ pub(crate) fn read_type(text: &[u8]) -> Option<AceType>
     }
 }
 
-/// The entry, or `InheritOnly` if it has an effect neither where it stands nor below.
+/// The entry; `InheritOnly` if it has no effect, neither on the file itself nor on what inherits
+/// it.
 pub fn refuse_idle(ace: Ace) -> Result<Ace, PieceFault>
     ensures { result ≡ refuse_idle ace }
 {

@@ -18,17 +18,17 @@ use acl_names::push_decimal;
 use std::alloc::AllocError;
 
 impl Acl4 {
-    /// Appends the entries in order, on one line with commas between them, as in
-    /// `A::OWNER@:rwatTcCoy,A:g:50:rx`: as `print_aces` prints them, but with ids in decimal.
-    /// Nothing is printed of a list with no entries. If memory runs out, `out` is as it was; that
-    /// happens only if `out` has no room for the text.
+    /// Appends the entries in order, in one line with commas between them, as in
+    /// `A::OWNER@:rwatTcCoy,A:g:50:rx`: as `print_aces` prints them, but with decimal ids. Appends
+    /// nothing for a list without entries. Fails only if memory runs out, and never if `out` has
+    /// room for the text; then `out` is as it was.
     pub fn print_short(&self, out: &mut Vec<u8>) -> Result<(), AllocError>
         ensures text { OnOk result (out.new.items ≡ out.old.items ++ short_text self.now) }
         ensures unchanged { OnErr result (out.new.items ≡ out.old.items) }
         ensures room { OnErr result (vec_capacity out.old
             < vec_len out.old + length (short_text self.now)) }
         ensures have_ids { OnOk result (HaveIds self.now) }
-        // What is printed is read as these entries, whatever names a directory knows.
+        // The text is read as these entries, whatever names a directory has.
         ensures read_again { OnOk result ((known : Known)
             → Spells (piece_value known) MAX_ACES (short_text self.now) self.now) }
     {
@@ -76,8 +76,8 @@ fn push_further_ace(ace: &Ace, out: &mut Vec<u8>) -> Result<(), AllocError>
     push_short_ace(ace, out)
 }
 
-/// Appends the entry as `print_short` does. If memory runs out, what was there stays; that happens
-/// only if `out` has no room for the text.
+/// Appends the entry as `print_short` does. Fails only if memory runs out, and never if `out` has
+/// room for the text; what `out` held stays in front.
 pub fn push_short_ace(ace: &Ace, out: &mut Vec<u8>) -> Result<(), AllocError>
     ensures printed { PushesInRoom (short_ace ace.now) result out.old out.new }
     ensures has_id { OnOk result (HasId ace.now.who) }

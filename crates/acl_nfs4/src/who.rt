@@ -6,26 +6,26 @@ use crate::Flags;
 use acl_names::{Gid, Subject, Uid};
 use bitflags::Flags as FlagSet;
 
-/// Whom an entry is about (RFC 8881, section 6.2.1.5).
+/// Whom an entry is for (RFC 8881, section 6.2.1.5).
 #[derive(Clone, Copy, Debug, PartialEq, Eq)]
 pub enum Who {
     /// `OWNER@`: the file's owner.
     Owner,
-    /// `GROUP@`: whoever is in the file's group.
+    /// `GROUP@`: everybody in the file's group.
     Group,
-    /// `EVERYONE@`: all, the owner and the group included.
+    /// `EVERYONE@`: everybody, the owner and the group included.
     Everyone,
-    /// The user with the id.
+    /// A user by id.
     User(Uid),
-    /// Whoever is in the group with the id.
+    /// Everybody in a group by id.
     NamedGroup(Gid),
 }
 
 impl Who {
     ghost use Rattle.acl_nfs4.specs.Who.{matches, is_special, same_who, flags_of_who};
 
-    /// Whether whoever asks for a file with this owner and this group is meant. Long lists are
-    /// mostly about users, who are recognised at one look.
+    /// Whether an entry for this `who` applies to the subject, for a file of this owner and this
+    /// group. Users come first: long lists are mostly about them.
     pub(crate) fn matches<S: Subject>(&self, owner: Uid, group: Gid, subject: &S) -> bool
         ensures { result ≡ matches owner group (S.identity subject.now) self.now }
     {
@@ -35,8 +35,8 @@ impl Who {
         self.matches_any(owner, group, subject)
     }
 
-    /// Whether an entry of this who applies to the subject, for any kind of who. It is never
-    /// inlined, so that the common test for a user is one comparison at the call.
+    /// `matches` for any kind of `who`. Never inlined, so that the common test for a user is one
+    /// comparison at the call.
     #[inline(never)]
     fn matches_any<S: Subject>(&self, owner: Uid, group: Gid, subject: &S) -> bool
         ensures { result ≡ matches owner group (S.identity subject.now) self.now }
@@ -63,14 +63,14 @@ impl Who {
         }
     }
 
-    /// Whether both are the same who: `==`, with a clause that proofs can cite.
+    /// Whether both are equal: `==`, with a clause that proofs can cite.
     pub(crate) fn is(&self, other: &Who) -> bool
         ensures { result ≡ same_who self.now other.now }
     {
         *self == *other
     }
 
-    /// The flags of an entry that has none but what its who asks for.
+    /// The flags that an entry for this `who` requires.
     pub(crate) fn flags(&self) -> Flags
         ensures { flag_bits result ≡ flags_of_who self.now }
     {

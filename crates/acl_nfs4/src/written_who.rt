@@ -1,4 +1,4 @@
-//! Whom the text of an ACE names.
+//! Whom an ACE's text names.
 
 ghost use Rattle.std.specs.Prelude.{◌≡◌, option_map};
 ghost use Rattle.acl_names.specs.Ids.{written_id};
@@ -22,17 +22,17 @@ pub enum WrittenWho<'a> {
     Everyone,
     /// An id in decimal, or a name alone.
     Id(WrittenId<'a>),
-    /// A name, and the domain in which it stands.
+    /// A name, and its domain.
     At(&'a str, &'a [u8]),
 }
 
 impl<'a> WrittenWho<'a> {
-    /// Whom the text names: a special identifier, an id of 1 to 10 digits, or a text with the shape
-    /// of a name, alone or before `@` and a text with the shape of a domain.
+    /// Reads a special identifier, an id of 1 to 10 digits, or a text with the shape of a name,
+    /// alone or before `@` and a text with the shape of a domain. `None` for other texts.
     pub fn read(text: &'a [u8]) -> Option<WrittenWho<'a>>
         ensures { option_map view_who result ≡ written_who text.now }
     {
-        // A decimal and a special identifier, as most are, are recognised at one look.
+        // Decimals and special identifiers, which are the most common, are recognised first.
         if let Some(number) = read_decimal(text) {
             return Some(WrittenWho::Id(WrittenId::Number(number)));
         }
@@ -47,7 +47,7 @@ impl<'a> WrittenWho<'a> {
     }
 }
 
-/// Whom any text names, by its parts round each `@`.
+/// Whom any text names, by its parts between each `@`.
 fn read_who_of_parts(text: &[u8]) -> Option<WrittenWho<'_>>
     ensures { option_map view_who result ≡ written_who text.now }
 {
@@ -111,7 +111,7 @@ pub(crate) fn resolve(directory: &Directory, is_group: bool, written: WrittenWho
     }
 }
 
-/// The user or the group that has what is written.
+/// The user or the group with the written id or name.
 #[inline(always)]
 fn who_with_id(directory: &Directory, is_group: bool, written: WrittenId<'_>) -> Option<Who>
     ensures { result ≡ who_with_id directory.now is_group (view_written written.entry) }

@@ -1,11 +1,11 @@
--- Who is asked about, as lists.
+-- The users to evaluate, as lists.
 use Rattle.std.specs.Prelude.{◌≡◌, ℕ, List, map}
 use Rattle.std.specs.List.{zip}
 use Rattle.acl_names.specs.Requester.{Identity}
 use Rattle.acl_people.specs.Person.{Person}
 use Rattle.acl_people.specs.declared.people.People.{People}
 
--- the lists have the names of these people, and each of them as one who asks, place by place
+-- the lists have the names of these users, and each of them as a requester, place by place
 pub record ArePeople (persons : List Person) (people : People) : Type 0 where
   pub names : map (λ name. name.items) people.names.items ≡ map (λ one. one.name) persons
   pub requesters : people.requesters.items ≡ map (λ one. one.who) persons

@@ -1,11 +1,13 @@
 -- Who there is: the users and groups of a host.
-use Rattle.std.specs.Prelude.{◌≡◌, ◌-◌, ℕ, List, ◌∷◌, ◌++◌, Option, Some, None, Ok, IfSome, codes}
-use Rattle.std.specs.Prelude.{bytes_eq, drop, if◌then◌else◌, length, option_map, take, unwrap_or}
+use Rattle.std.specs.Prelude.{◌≡◌, ◌-◌, ℕ, Bool, List, ◌∷◌, ◌++◌, Option, Some, None, Ok, IfSome}
+use Rattle.std.specs.Prelude.{bytes_eq, codes, drop, if◌then◌else◌, is_none, length, option_map}
+use Rattle.std.specs.Prelude.{take, unwrap_or}
 use Rattle.std.specs.Option.{option_and_then}
 use Rattle.clap.specs.Words.{Row, Text, first_of}
 use Rattle.acl_names.specs.Bytes.{newline}
 use Rattle.acl_names.specs.Names.{Names}
-use Rattle.acl_accounts.specs.Accounts.{AreOf, KnownAccounts, gid_of, rows_within, uid_of}
+use Rattle.acl_accounts.specs.Accounts.{AreOf, KnownAccounts, gid_of, group_name, rows_within}
+use Rattle.acl_accounts.specs.Accounts.{uid_of, user_name}
 use Rattle.acl_accounts.specs.Names.{written_account}
 use Rattle.acl_accounts.specs.Rows.{Rows}
 
@@ -35,6 +37,13 @@ names_of_host host = record {
   uid = uid_of host.accounts;
   gid = gid_of host.accounts;
 }
+
+-- no user has the uid; and no group has the gid
+abbrev pub lacks_user : Host → ℕ → Bool
+lacks_user host uid = is_none (user_name host.accounts uid)
+
+abbrev pub lacks_group : Host → ℕ → Bool
+lacks_group host gid = is_none (group_name host.accounts gid)
 
 -- the files of this host's own accounts
 abbrev pub users_file : Text

@@ -3,3 +3,4 @@ pub mod Host
 pub mod HostFailures
 pub mod People
 pub mod Asked
+pub mod Elsewhere

@@ -1,4 +1,4 @@
-//! All users of a host, in the order of their names.
+//! All users of a host, sorted by name.
 ghost use Rattle.std.specs.Prelude.{◌≡◌, ◌≤◌, IfOk, length, option_map, slice_get};
 ghost use Rattle.acl_people.specs.People.{everyone};
 ghost use Rattle.acl_people.specs.Person.{person};
@@ -8,7 +8,7 @@ use acl_accounts::Accounts;
 use acl_names::Requester;
 use std::alloc::{AllocError, Global};
 
-/// The user of this name, who asks as the one at this place.
+/// The user of this name, as the requester at this place.
 fn listed_at(
     alloc: Global,
     name: &[u8],
@@ -25,7 +25,7 @@ fn listed_at(
     Ok(Some(person))
 }
 
-/// The user of accounts at this place.
+/// The user at this place of the accounts.
 pub(crate) fn account_at(
     alloc: Global,
     accounts: &Accounts,

@@ -1,8 +1,9 @@
-//! Who there is: the users and groups of a host.
+//! The users and groups of a host.
 ghost use Rattle.std.specs.Prelude.{◌≡◌, IfErr, IfOk, option_map};
 ghost use Rattle.clap.specs.Words.{found_of, rows_of};
+ghost use Rattle.acl_people.specs.Elsewhere.{IsOtherHost, IsOtherHostFailure};
 ghost use Rattle.acl_people.specs.Host.{AreAccountsBy, IsHost, before_domain, before_end};
-ghost use Rattle.acl_people.specs.Host.{by_itself};
+ghost use Rattle.acl_people.specs.Host.{by_itself, lacks_group, lacks_user};
 ghost use Rattle.acl_people.specs.HostFailures.{IsAccountsFailureBy, IsHostFailure};
 
 mod accounts;
@@ -17,8 +18,8 @@ use clap::ArgMatches;
 use std::alloc::{AllocError, Global};
 use std::marker::Model;
 
-/// Who there is, by accounts. A name may also stand in a domain, if one is known: there
-/// `NAME@DOMAIN` is NAME.
+/// The users and groups of a host, from accounts, and their domain, if there is one: a text may
+/// write `NAME@DOMAIN` for NAME.
 #[derive(Debug, Drop)]
 pub struct Host {
     accounts: Accounts,
@@ -37,14 +38,14 @@ impl Model for Host {
     } };
 }
 
-/// What stands before the end, if the text ends so.
+/// The text before `end`, if it ends so.
 fn before_end<'t>(end: &[u8], text: &'t [u8]) -> Option<&'t [u8]>
     ensures { option_map (λ front. front.now) result ≡ before_end end.now text.now }
 {
     text.strip_suffix(end)
 }
 
-/// What stands before `@` and the domain, if the text ends so.
+/// The text before `@` and the domain, if it ends so.
 fn before_domain<'t>(domain: &[u8], text: &'t [u8]) -> Option<&'t [u8]>
     ensures { option_map (λ name. name.now) result ≡ before_domain domain.now text.now }
 {
@@ -60,7 +61,7 @@ impl Host {
         &self.accounts
     }
 
-    /// A text by itself: without the domain, if it stands in it.
+    /// The text without `@` and the domain, if it ends so.
     pub(crate) fn by_itself<'t>(&self, text: &'t [u8]) -> &'t [u8]
         ensures { result.now ≡ by_itself self.now.domain text.now }
     {
@@ -68,6 +69,20 @@ impl Host {
             Some(domain) => before_domain(domain.as_slice(), text).unwrap_or(text),
             None => text,
         }
+    }
+
+    /// Whether no user has the uid.
+    pub fn lacks_user(&self, uid: Uid) -> bool
+        ensures { result ≡ lacks_user self.now uid }
+    {
+        self.accounts.user_name(uid).is_none()
+    }
+
+    /// Whether no group has the gid; that it is a user's own doesn't count.
+    pub fn lacks_group(&self, gid: Gid) -> bool
+        ensures { result ≡ lacks_group self.now gid }
+    {
+        self.accounts.group_name(gid).is_none()
     }
 }
 
@@ -127,8 +142,8 @@ fn read_any_accounts<'a, F: OpenFiles>(
     }
 }
 
-/// Who there is by the words: the accounts of the file of `--accounts`, or without it this host's
-/// own, and the domain of `--domain`. A file that can't be read or is malformed is refused.
+/// The users and groups that the words name: the accounts of `--accounts`, or this host's own, and
+/// the domain of `--domain`. Fails if a file can't be read or is malformed, or memory runs out.
 pub fn read_host<'a, F: OpenFiles>(
     alloc: Global,
     files: &F,
@@ -140,5 +155,24 @@ pub fn read_host<'a, F: OpenFiles>(
 {
     let domain = copy_of(alloc, text_field(matches, "domain"))?;
     let accounts = read_any_accounts(alloc, files, text_field(matches, "accounts"))?;
+    Ok(Host { accounts, domain })
+}
+
+/// The users and groups of the accounts file `name`, and the domain of `--domain`. Fails if the
+/// file can't be read or is malformed, or memory runs out.
+pub fn read_other_host<'a, F: OpenFiles>(
+    alloc: Global,
+    files: &F,
+    name: &'a str,
+    matches: &ArgMatches<'a>,
+) -> Result<Host, Failure<'a>>
+    ensures opened { IfOk result (IsOtherHost (F.bytes_of files.now) name.entry.now
+        (rows_of (found_of matches.now))) }
+    ensures refused { IfErr result
+        (IsOtherHostFailure (F.bytes_of files.now) name.entry.now) }
+{
+    let accounts = read_any_accounts(alloc, files, Some(name))?;
+    let same = text_field(matches, "domain");
+    let domain = copy_of(alloc, same)?;
     Ok(Host { accounts, domain })
 }

@@ -1,6 +1,7 @@
-//! Who there is, by the accounts of a host, and who of them is asked about.
+//! The users and groups of a host, and the users to evaluate.
 #![tactic(auto)]
 
+mod elsewhere;
 mod everyone;
 mod host;
 pub mod options;
@@ -8,6 +9,7 @@ mod people;
 mod person;
 mod written;
 
-pub use host::{Host, read_host};
+pub use elsewhere::people_elsewhere;
+pub use host::{Host, read_host, read_other_host};
 pub use people::{People, read_people, user_fields};
 pub use person::Person;

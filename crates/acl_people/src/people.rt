@@ -1,4 +1,4 @@
-//! Who is asked about.
+//! The users to evaluate.
 ghost use Rattle.std.specs.Prelude.{◌≡◌, ◌≢◌, ◌+◌, ◌++◌, ◌∷◌, [], IfErr, IfOk, List, Ok, OnOk};
 ghost use Rattle.std.specs.Prelude.{codes, map, option_map, take};
 ghost use Rattle.std.specs.Bool.{MatchBool};
@@ -20,17 +20,18 @@ use acl_names::Requester;
 use clap::ArgMatches;
 use std::alloc::{AllocError, Global};
 
-/// Who is asked about: names as getfacl prints them, and who each of them is, place by place.
+/// The users to evaluate: the name of each as getfacl prints it, and at the same place its
+/// requester.
 #[derive(Drop)]
 pub struct People {
     /// The names, as `who` prints them.
     pub names: Vec<Vec<u8>>,
-    /// Each of them as one who asks.
+    /// Each of them as a requester.
     pub requesters: Vec<Requester>,
 }
 
 impl People {
-    /// Whether it is nobody.
+    /// Whether there are no users.
     fn is_empty(&self) -> bool
         ensures { (persons : List PersonValue) → ArePeople persons self.now
             → MatchBool result (persons ≡ []) (persons ≢ []) }
@@ -38,7 +39,7 @@ impl People {
         self.requesters.is_empty()
     }
 
-    /// Nobody.
+    /// No users.
     pub(crate) fn new(alloc: Global) -> People
         ensures { ArePeople [] result }
     {
@@ -48,7 +49,7 @@ impl People {
         }
     }
 
-    /// Appends one more.
+    /// Appends a user.
     pub(crate) fn push(&mut self, person: Person) -> Result<(), AllocError>
         ensures { (persons : List PersonValue) → ArePeople persons self.old
             → OnOk result (ArePeople (persons ++ person ∷ []) self.new) }
@@ -90,8 +91,8 @@ fn all_people(alloc: Global, accounts: &Accounts) -> Result<People, AllocError>
     Ok(people)
 }
 
-/// All users but uid 0 of the accounts of this name, of whom there has to be one: else whoever is
-/// told that nobody may do something would take it for an answer.
+/// All users but uid 0 of the accounts of this name. Fails if there is none: an empty answer would
+/// otherwise look as if nobody had access.
 fn everybody<'a>(alloc: Global, host: &Host, name: &'a str) -> Result<People, Failure<'a>>
     ensures read { IfOk result (λ people. (persons : List PersonValue) × ArePeople persons people
         × (asked_of name.entry.now host.now [] ≡ Ok persons)) }
@@ -104,7 +105,7 @@ fn everybody<'a>(alloc: Global, host: &Host, name: &'a str) -> Result<People, Fa
     Ok(people)
 }
 
-/// Those whom texts ask about.
+/// The users whom these texts name.
 fn people_in<'a>(alloc: Global, host: &Host, texts: &[&'a str]) -> Result<People, Failure<'a>>
     ensures read { IfOk result (λ people. (persons : List PersonValue) × ArePeople persons people
         × (each_read (person_in host.now) (map (λ text. text.now) texts.now) ≡ Ok persons)) }
@@ -119,7 +120,7 @@ fn people_in<'a>(alloc: Global, host: &Host, texts: &[&'a str]) -> Result<People
     Ok(people)
 }
 
-/// Those whom texts ask about; all but uid 0, of the accounts of this name, if there is no text.
+/// The users whom these texts name; without texts, all but uid 0 of the accounts of this name.
 fn people_asked<'a>(
     alloc: Global,
     host: &Host,
@@ -137,7 +138,7 @@ fn people_asked<'a>(
     people_in(alloc, host, texts)
 }
 
-/// The texts of `--user`, if the words give any.
+/// The values of `--user`; `None` if the option isn't given.
 pub fn user_fields<'m, 'a>(matches: &'m ArgMatches<'a>) -> Option<&'m [&'a str]>
     ensures { option_map (λ texts. map (λ text. text.now) texts.now) result
         ≡ all_of (codes "user") (rows_of (found_of matches.now)) }
@@ -145,16 +146,16 @@ pub fn user_fields<'m, 'a>(matches: &'m ArgMatches<'a>) -> Option<&'m [&'a str]>
     matches.get_strs("user")
 }
 
-/// What the accounts are called that the words name.
+/// The name under which faults of the accounts are reported.
 fn accounts_name<'a>(matches: &ArgMatches<'a>) -> &'a str
     ensures { result.now ≡ accounts_in (rows_of (found_of matches.now)) }
 {
     text_field(matches, "accounts").unwrap_or(OWN_FILES)
 }
 
-/// Whom the words ask about: the users of `--user`, in the order of the words, or else all; never
-/// uid 0. A name that no user has, a text that writes none, and uid 0 are refused, and so are
-/// accounts without a user to ask about.
+/// The users to evaluate: those of `--user`, in its order, or else all but uid 0. Fails for a name
+/// that no user has, a malformed one, uid 0, and accounts without another user; and if memory runs
+/// out.
 pub fn read_people<'a>(
     alloc: Global,
     host: &Host,

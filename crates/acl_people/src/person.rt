@@ -1,4 +1,4 @@
-//! Users by themselves, as they are asked about.
+//! One user to evaluate.
 ghost use Rattle.std.specs.Prelude.{◌≡◌, IfOk, decimal};
 ghost use Rattle.acl_accounts.specs.Names.{quoted};
 ghost use Rattle.acl_people.specs.Person.{is_root, person, stranger};
@@ -8,7 +8,7 @@ use acl_names::{Requester, Uid, push_decimal};
 use std::alloc::{AllocError, Global};
 use std::marker::Model;
 
-/// A user who is asked about, with the name as getfacl prints it.
+/// A user to evaluate, with the name as getfacl prints it.
 #[derive(Drop)]
 pub struct Person {
     pub name: Vec<u8>,
@@ -32,7 +32,7 @@ pub(crate) fn printed_name(alloc: Global, name: &[u8]) -> Result<Vec<u8>, AllocE
     Ok(printed)
 }
 
-/// An id as getfacl prints it where no user has it.
+/// An id as getfacl prints it if no user has it.
 pub(crate) fn printed_id(alloc: Global, uid: Uid) -> Result<Vec<u8>, AllocError>
     ensures { IfOk result (λ printed. printed.items ≡ decimal uid) }
 {
@@ -41,7 +41,7 @@ pub(crate) fn printed_id(alloc: Global, uid: Uid) -> Result<Vec<u8>, AllocError>
     Ok(printed)
 }
 
-/// The same one who asks.
+/// A copy of the requester.
 fn copy_of(alloc: Global, requester: &Requester) -> Result<Requester, AllocError>
     ensures { IfOk result (λ copy. copy ≡ requester.now) }
 {
@@ -63,7 +63,7 @@ impl Person {
         Ok(Person { name, requester })
     }
 
-    /// Whoever has an id that no user has.
+    /// The requester with an id that no user has, in no group.
     pub(crate) fn stranger(alloc: Global, uid: Uid) -> Result<Person, AllocError>
         ensures { IfOk result (λ made. made ≡ stranger uid) }
     {

@@ -1,4 +1,4 @@
-//! Users as they are written: by a name, or by an id.
+//! Users as a text writes them: by a name, or by an id.
 ghost use Rattle.std.specs.Prelude.{◌≡◌, IfErr, IfOk, None, Ok, option_and_then};
 ghost use Rattle.std.specs.Prelude.{option_map};
 ghost use Rattle.acl_accounts.specs.Names.{written_account};
@@ -17,7 +17,7 @@ use acl_names::Uid;
 use arrayvec::ArrayVec;
 use std::alloc::{AllocError, Global};
 
-/// Whoever has the id that is written, which no user has.
+/// The requester with the written id, which no user has.
 fn stranger_written(
     alloc: Global,
     written: WrittenAccount<'_>,
@@ -35,7 +35,7 @@ fn stranger_written(
     Ok(Some(person))
 }
 
-/// Who is written, by accounts.
+/// The user whom the text writes, by the accounts.
 fn account_written(
     alloc: Global,
     accounts: &Accounts,
@@ -52,8 +52,12 @@ fn account_written(
     stranger_written(alloc, written)
 }
 
-/// Who is written by a text, by accounts.
-fn account_in(alloc: Global, accounts: &Accounts, text: &[u8]) -> Result<Option<Person>, AllocError>
+/// The user whom a text names, by the accounts.
+pub(crate) fn account_in(
+    alloc: Global,
+    accounts: &Accounts,
+    text: &[u8],
+) -> Result<Option<Person>, AllocError>
     ensures { IfOk result (λ found. found
         ≡ option_and_then (person_written accounts.now) (written_account text.now)) }
 {
@@ -65,7 +69,7 @@ fn account_in(alloc: Global, accounts: &Accounts, text: &[u8]) -> Result<Option<
 }
 
 impl Host {
-    /// The one whom a text asks about; never uid 0.
+    /// The user whom a text names; never uid 0.
     fn person_asked<'a>(&self, alloc: Global, text: &'a str) -> Result<Person, Failure<'a>>
         ensures read { IfOk result (λ person. person_asked self.now text.entry.now ≡ Ok person) }
         ensures refused { IfErr result (ExplainsText (person_asked self.now text.entry.now)) }
@@ -80,7 +84,8 @@ impl Host {
         Ok(person)
     }
 
-    /// The one whom a value of `--user` asks about; never uid 0.
+    /// The user whom a value of `--user` names. Fails for a name that no user has, a malformed one,
+    /// and uid 0; and if memory runs out.
     pub fn read_person<'a>(&self, alloc: Global, text: &'a str) -> Result<Person, Failure<'a>>
         ensures read { IfOk result (λ person. person_in self.now text.entry.now ≡ Ok person) }
         ensures refused { IfErr result (Explains (person_in self.now text.entry.now)) }

@@ -60,7 +60,7 @@ pub record SpellsBy (names : Names) (text : List ℕ) (acl : List EntryValue) : 
 abbrev pub SpellsAcl : Known → List ℕ → List EntryValue → Type 0
 SpellsAcl known = SpellsBy (names_of known)
 
--- the word that tells a fault
+-- the word that reports a fault
 abbrev pub fault_word : AclFault → List ℕ
 fault_word BadAcl = codes "bad-acl"
 fault_word UnknownName = codes "unknown-name"

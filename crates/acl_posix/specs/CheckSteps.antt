@@ -18,7 +18,7 @@ abbrev pub tag_has : Tag → List EntryValue → ℕ → Bool
 tag_has tag acl request = list_any (λ entry. same_tag entry.tag tag && has_all entry.perms request)
     acl
 
--- the same of the entries for the groups of the requester
+-- the same for the entries for the requester's groups
 abbrev pub has_group : Identity → ℕ → List EntryValue → Bool
 has_group requester group acl = list_any (λ entry. is_for_group_of requester group entry.tag) acl
 
@@ -30,16 +30,16 @@ group_has requester group acl request = list_any
 abbrev pub mask_allows : List EntryValue → ℕ → Bool
 mask_allows acl request = option_map_or (λ mask. has_all mask request) (perms_of Mask acl) true
 
--- what the entry with a tag answers, if there is one
+-- the answer of the entry with a tag, if there is one
 abbrev pub tag_answer : Tag → List EntryValue → ℕ → Option Bool
 tag_answer tag acl request = if has_tag tag acl then Some (tag_has tag acl request) else None
 
--- what the entry of the user answers under the mask, if there is one
+-- the answer of the user's own entry under the mask, if there is one
 abbrev pub user_answer : List EntryValue → ℕ → ℕ → Option Bool
 user_answer acl uid request = if has_tag (User uid) acl
     then Some (tag_has (User uid) acl request && mask_allows acl request) else None
 
--- what the entries for the requester's groups answer together, if there are any, before the mask
+-- the answer of the entries for the requester's groups together, if there are any, before the mask
 abbrev pub groups_answer : List EntryValue → ℕ → Identity → ℕ → Option Bool
 groups_answer acl group requester request = if has_group requester group acl
     then Some (group_has requester group acl request) else None

@@ -53,7 +53,7 @@ tag_with_id written_in tag id_of text = do
   id ← or_fault UnknownName (id_of_written id_of written)
   Ok (tag id)
 
--- the tag that a word and a qualifier say
+-- the tag that a word and a qualifier mean
 abbrev pub tag_by : Names → TagWord → Option (List ℕ) → Result Tag PieceFault
 tag_by names word.User None = Err Syntax
 tag_by names word.User (Some []) = Ok UserObj
@@ -74,7 +74,7 @@ tag_by names word.Other (Some (byte ∷ bytes)) = Err Syntax
 abbrev pub tag_of : Known → TagWord → Option (List ℕ) → Result Tag PieceFault
 tag_of known = tag_by (names_of known)
 
--- what a piece of a text says: an entry, or what is wrong with it
+-- the entry that a piece of a text means, or its fault
 unfoldable pub entry_by : Names → List ℕ → Result EntryValue PieceFault
 entry_by names piece = do
   fields ← or_fault Syntax (fields_of piece)

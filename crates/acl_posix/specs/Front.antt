@@ -1,4 +1,4 @@
--- Private steps, which no public clause cites: an entry with which a text begins, its word, its
+-- Private steps, which no public clause cites: the entry that a text begins with, its word, its
 -- qualifier and its permissions.
 use Rattle.std.specs.Prelude.{◌≡◌, ℕ, Bool, List, ◌∷◌, ◌++◌, Some, Ok}
 use Rattle.acl_names.specs.Bytes.{colon}
@@ -16,7 +16,7 @@ pub record BeginsWithWord (text : List ℕ) (word : TagWord) (rest : List ℕ) :
   pub field : IsField written
   pub says : tag_word written ≡ Some word
 
--- the text after the word begins with a qualifier and a colon, and they say the tag
+-- the text after the word begins with a qualifier and a colon, and they mean the tag
 pub record BeginsWithTag (names : Names) (text : List ℕ) (word : TagWord) (tag : Tag)
     (rest : List ℕ) : Type 0 where
   pub qualifier : List ℕ

@@ -1,4 +1,4 @@
--- What Linux decides, beside what the draft decides.
+-- What Linux decides, compared with the draft.
 use Rattle.std.specs.Prelude.{ℕ, Bool, false, ◌≡◌, ◌==◌, ◌&&◌, List, IsTrue}
 use Rattle.std.specs.List.{list_any}
 use Rattle.acl_names.specs.Requester.{Identity, is_in_group}
@@ -15,7 +15,7 @@ is_named_by requester (User uid) = uid == requester.uid
 is_named_by requester (Group gid) = is_in_group requester gid
 is_named_by requester _ = false
 
--- whether an entry of the list does
+-- whether any entry of the list does
 abbrev pub is_named_in : List EntryValue → Identity → Bool
 is_named_in acl requester = list_any (λ entry. is_named_by requester entry.tag) acl
 
@@ -25,7 +25,7 @@ GrantsNoLess = (acl : List EntryValue) (owner group : ℕ) (requester : Identity
     → IsValid acl → IsTrue (grants acl owner group requester request)
     → IsTrue (grants (linux_list acl) owner group requester request)
 
--- Both decide alike, but for requesters whom a list with an empty mask names.
+-- Both decide the same, except for requesters whom a list with an empty mask names.
 abbrev pub DecidesAlike : Type 0
 DecidesAlike = (acl : List EntryValue) (owner group : ℕ) (requester : Identity) (request : ℕ)
     → IsValid acl → (has_empty_mask acl && is_named_in acl requester) ≡ false

@@ -1,4 +1,4 @@
--- Modes, and what they have to do with access control lists (1003.1e draft 17, section 23).
+-- Modes, and those of access control lists (1003.1e draft 17, section 23).
 use Rattle.std.specs.Prelude.{ℕ, ◌+◌, ◌*◌, ◌/◌, ◌%◌, Option, Some, None, List, [], ◌∷◌, map}
 use Rattle.std.specs.Prelude.{is_some, unwrap_or, if◌then◌else◌}
 use Rattle.std.specs.List.{filter, fold}
@@ -9,7 +9,7 @@ use Rattle.acl_names.specs.Bits.{◌∪◌}
 use Rattle.acl_posix.specs.Perms.{IsPermissions}
 use Rattle.acl_posix.specs.Access.{is_under_mask, under_mask}
 
--- what the owner, the file's group and the others may do
+-- the permissions of the owner, the file's group and the others
 pub record Classes : Type 0 where
   pub user : ℕ
   pub group : ℕ
@@ -25,16 +25,16 @@ pub record AreClasses (mode : Classes) : Type 0 where
 abbrev pub number_of : Classes → ℕ
 number_of mode = 64 * mode.user + 8 * mode.group + mode.other
 
--- the mode that a number is
+-- the mode of a number
 abbrev pub classes_of : ℕ → Classes
 classes_of number = record { user = number / 64; group = number / 8 % 8; other = number % 8 }
 
--- the permissions of the entry with the tag; none if there is no such entry
+-- the permissions of the entry with the tag; empty if there is no such entry
 abbrev pub perms_at : Tag → List EntryValue → ℕ
 perms_at tag acl = unwrap_or (perms_of tag acl) 0
 
--- the entry that stands for the group in a mode: the mask if there is one, else that of the file's
--- group
+-- the tag of the entry with the group's bits of a mode: the mask if there is one, else that of the
+-- file's group
 abbrev pub group_class_tag : List EntryValue → Tag
 group_class_tag acl = if is_some (perms_of Mask acl) then Mask else GroupObj
 
@@ -46,13 +46,13 @@ mode_of acl = record {
   other = perms_at Other acl;
 }
 
--- what a mode says of the entry with the tag, if it says anything
+-- the permissions that a mode has for the entry with the tag, if it has any
 abbrev pub mode_perms : Tag → Classes → Tag → Option ℕ
 mode_perms group_class mode UserObj = Some mode.user
 mode_perms group_class mode Other = Some mode.other
 mode_perms group_class mode tag = if same_tag tag group_class then Some mode.group else None
 
--- an entry with what the mode says of it, and one with no more than that
+-- an entry with the mode's permissions for it, and one with no more than these
 abbrev pub set_to : Tag → Classes → EntryValue → EntryValue
 set_to group_class mode entry = record {
   tag = entry.tag;
@@ -73,7 +73,7 @@ chmod acl mode = map (set_to (group_class_tag acl) mode) acl
 abbrev pub at_creation : List EntryValue → Classes → List EntryValue
 at_creation default mode = map (limit_to (group_class_tag default) mode) default
 
--- the access control list that says what a mode says
+-- the access control list of three entries with a mode
 abbrev pub of_mode : Classes → List EntryValue
 of_mode mode =
     record { tag = UserObj; perms = mode.user }

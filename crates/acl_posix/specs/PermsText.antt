@@ -21,7 +21,7 @@ abbrev pub perms_with : Bool → Bool → Bool → ℕ
 perms_with read write execute = (if read then 4 else 0) ∪ (if write then 2 else 0)
     ∪ (if execute then 1 else 0)
 
--- the permissions whose letters stand in the text
+-- the permissions whose letters the text has
 unfoldable pub perms_of_text : List ℕ → Option ℕ
 perms_of_text text = if is_perms_text text then Some
     (perms_with (occurs letter_r text) (occurs letter_w text) (occurs letter_x text)) else None

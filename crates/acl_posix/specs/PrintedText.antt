@@ -41,7 +41,7 @@ entry_text known entry = join_with_byte colon
 abbrev pub long_text : Known → List EntryValue → List ℕ
 long_text known = flat_map (λ entry. entry_text known entry ++ newline ∷ [])
 
--- a tab, `#effective:` and three characters, if permissions are left by a mask that removes some
+-- a tab, `#effective:` and three characters, if a mask leaves fewer permissions
 abbrev pub mark_of : Option ℕ → List ℕ
 mark_of None = []
 mark_of (Some left) = tab ∷ codes "#effective:" ++ perms_text left
@@ -73,7 +73,7 @@ letter_text (Group gid) = codes "g"
 letter_text Mask = codes "m"
 letter_text Other = codes "o"
 
--- the id that a tag names in decimal, by which it is read whatever names there are
+-- the id of a tag in decimal, as which it is read whatever names there are
 abbrev pub number_text : Tag → List ℕ
 number_text (User uid) = decimal uid
 number_text (Group gid) = decimal gid

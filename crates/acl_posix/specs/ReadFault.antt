@@ -1,4 +1,4 @@
--- Which fault a text of entries is refused for.
+-- The fault for which a text of entries is refused.
 use Rattle.std.specs.Prelude.{ℕ, List}
 use Rattle.acl_names.specs.Directory.{Known}
 use Rattle.acl_names.specs.Names.{Names, names_of}
@@ -15,7 +15,7 @@ use Rattle.acl_posix.specs.declared.limits.TheConstants.{MAX_ENTRIES}
 use Rattle.acl_posix.specs.declared.reading.PieceFault.{PieceFault}
 use Rattle.acl_posix.specs.declared.reading.PieceFault.TheVariants as piece
 
--- what is wrong with a name, as the fault of the piece
+-- the fault of a name as the fault of the piece
 abbrev pub fault_of_name : NameFault → PieceFault
 fault_of_name name.Malformed = piece.Syntax
 fault_of_name name.Unknown = piece.UnknownName
@@ -27,7 +27,7 @@ list_fault UnknownName = list.Piece piece.UnknownName
 list_fault TooMany = list.TooMany
 list_fault Memory = list.Memory
 
--- the fault of the leftmost piece that is no entry or is one too many
+-- the fault of the leftmost piece that isn't an entry or is one too many
 abbrev pub IsFaultBy : Names → List ℕ → TextFault → Type 0
 IsFaultBy names text fault = IsFaultOf (entry_by names) MAX_ENTRIES text (list_fault fault)
 

@@ -13,7 +13,7 @@ use Rattle.acl_posix.specs.declared.entry.Tag.TheVariants.{Other}
 abbrev pub IsWord : List ℕ → List ℕ → List ℕ → Type 0
 IsWord word letter text = (text ≡ word) ⊎ (text ≡ letter)
 
--- a decimal of this id, or the name of one who has it
+-- a decimal of this id, or the name of the user or group that has it
 abbrev pub WritesId : (List ℕ → Option ℕ) → List ℕ → ℕ → Type 0
 WritesId id_of text id = (decimal_value text ≡ Some id)
     ⊎ ((has_name_shape text ≡ true) × (id_of text ≡ Some id))

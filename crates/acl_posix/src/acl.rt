@@ -19,20 +19,20 @@ pub use in_place::{entries_grant, entries_grant_on_linux};
 use smallvec::SmallVec;
 use std::marker::Model;
 
-/// Why a list of entries is no access control list.
+/// Why entries don't make an access control list.
 #[derive(Clone, Copy, Debug, PartialEq, Eq)]
 pub enum Invalid {
-    /// The entry for the owner, the file's group or the others.
+    /// The entry for the owner, the file's group or the others is missing.
     Missing,
-    /// A tag with its id stands twice.
+    /// Two entries have the same tag and id.
     Repeated,
-    /// A user or a group is named, and there is no mask.
+    /// There is an entry for a user or a group by id, and no mask.
     NoMask,
-    /// Memory ran out. No call here answers it: the entries are put in order where they stand.
+    /// Memory ran out. No call of this crate returns it: entries are sorted in place.
     Memory,
 }
 
-/// An access control list: a valid set of entries, which are kept in canonical order.
+/// An access control list: a valid set of entries, in canonical order.
 #[derive(Debug, Drop)]
 pub struct Acl {
     sorted: SmallVec<Entry, INLINE_ENTRIES>,
@@ -57,12 +57,11 @@ impl Acl {
     ghost use Rattle.acl_posix.specs.InOrder.{in_order};
     ghost use Rattle.acl_posix.specs.Perms.{IsPermissions};
 
-    /// The access control list of these entries, if they are one (1003.1e draft 17, section 23):
-    /// one entry each for the owner, the file's group and the others, at most one mask, no user and
-    /// no group twice, and a mask if a user or a group is named. Else it is refused for the first
-    /// of: an entry is missing, an entry stands twice, there is no mask. The entries are dropped on
-    /// a refusal. It takes over their storage, and takes no memory. The list is the entries in
-    /// canonical order.
+    /// Makes an access control list of these entries (1003.1e draft 17, section 23): one entry each
+    /// for the owner, the file's group and the others, at most one mask, no user and no group
+    /// twice, and a mask if a user or a group is named. Refuses others for the first of: an entry
+    /// is missing, an entry is repeated, there is no mask; a refusal drops the entries. The list
+    /// has the entries in canonical order, in their own storage: it takes no memory.
     #[inline(always)]
     pub fn new(entries: Entries) -> Result<Acl, Invalid>
         ensures list { IfOk result (λ acl. acl ≡ in_order entries) }
@@ -88,7 +87,7 @@ impl Acl {
         ensures value { result.now ≡ self.now }
         ensures acl { IsAcl self.now }
 
-        // It is known by the set of its entries.
+        // A list is determined by the set of its entries.
         ensures one_list { (other : List EntryValue) → IsAcl other
             → ((entry : EntryValue) → Contains self.now entry ↔ Contains other entry)
             → self.now ≡ other }
@@ -103,8 +102,8 @@ impl Acl {
         self.entries() == other.entries()
     }
 
-    /// The permissions of the MASK, which limits what users, the file's group and groups may do;
-    /// `None` if there is none.
+    /// The permissions of the mask, which limits users, the file's group and groups; `None` without
+    /// a mask.
     pub fn mask(&self) -> Option<Perms>
         ensures value { option_map bits_of result ≡ perms_of Tag.Mask self.now }
         ensures permissions { IfSome result (λ perms. IsPermissions (bits_of perms)) }
@@ -112,7 +111,7 @@ impl Acl {
         self.perms_of(Tag::Mask)
     }
 
-    /// The permissions of the entry with the tag.
+    /// The permissions of the entry with the tag; `None` without such an entry.
     fn perms_of(&self, tag: Tag) -> Option<Perms>
         ensures acl { IsAcl self.now }
         ensures value { option_map bits_of result ≡ perms_of tag self.now }
@@ -121,7 +120,7 @@ impl Acl {
     }
 }
 
-/// The permissions of the entry with the tag, among entries in canonical order.
+/// The permissions of the entry with the tag, among entries in canonical order; `None` without one.
 fn perms_of(entries: &[Entry], tag: Tag) -> Option<Perms>
     requires { IsCanonical entries.now }
     ensures { option_map bits_of result ≡ perms_of tag entries.now }

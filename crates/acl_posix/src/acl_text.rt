@@ -1,4 +1,4 @@
-//! Access control lists that are read from a text.
+//! Reading access control lists from text.
 
 ghost use Rattle.std.specs.Prelude.{◌≡◌, ◌≢◌, ◌≤◌, length, IfErr, IfOk};
 ghost use Rattle.acl_names.specs.Pieces.{pieces};
@@ -10,23 +10,23 @@ use crate::{Acl, Invalid, TextFault, read_entries};
 use acl_names::ResolveNames;
 use std::alloc::Global;
 
-/// Why a text gives no access control list.
+/// Why a text isn't an access control list.
 #[derive(Clone, Copy, Debug, PartialEq, Eq)]
 pub enum AclFault {
     /// A piece has none of the shapes of entries.
     BadAcl,
-    /// An entry names someone whom nobody knows.
+    /// An entry has a name that no user, or no group, has.
     UnknownName,
     /// There are more than 64 entries.
     TooMany,
-    /// The entries are no access control list.
+    /// The entries don't make an access control list, as `Acl::new` requires.
     InvalidAcl,
 }
 
 impl AclFault {
     ghost use Rattle.acl_posix.specs.AclText.{fault_word};
 
-    /// The word that tells it.
+    /// The word by which commands report it, as `bad-acl`.
     pub fn word(self) -> &'static str
         ensures { result.now ≡ fault_word self }
     {
@@ -39,12 +39,12 @@ impl AclFault {
     }
 }
 
-/// Why a call reads no access control list.
+/// Why no access control list was read.
 #[derive(Clone, Copy, Debug, PartialEq, Eq)]
 pub enum ReadAclFault {
-    /// The text gives none.
+    /// The text isn't one.
     Acl(AclFault),
-    /// Memory ran out, which says nothing of the text.
+    /// Memory ran out; the text may be one.
     Memory,
 }
 
@@ -74,9 +74,9 @@ impl From<Invalid> for ReadAclFault {
     }
 }
 
-/// The access control list that the text spells: entries, as `read_entries` reads them, that are an
-/// access control list. The text is refused for its first piece that is no entry or one too many,
-/// and else for what its entries are.
+/// Reads an access control list: entries as `read_entries` reads them, which `Acl::new` must
+/// accept. The first piece that is malformed or one too many decides the fault; only without one
+/// does `Acl::new`.
 pub fn read_acl<N: ResolveNames>(alloc: Global, text: &[u8], names: &N) -> Result<Acl, ReadAclFault>
     ensures value { ReadsAs (acl_by (N.names names.now) (pieces text.now)) result }
     ensures spelt { IfOk result (SpellsBy (N.names names.now) text.now) }

@@ -4,14 +4,14 @@ ghost use Rattle.acl_names.specs.Bits.{without};
 
 use bitflags::Flags;
 
-/// The bits on a condition, and else none.
+/// The bits if the condition holds, and else none.
 pub fn bits_if<F: Flags>(bits: F, condition: bool) -> F
     ensures { F.exact → F.set_of result ≡ (if condition then F.set_of bits else 0) }
 {
     if condition { bits } else { F::empty() }
 }
 
-/// The bits that are not among those removed.
+/// The bits without those in `removed`.
 #[tactic(auto, unfolding(acl_names::specs::Bits::without))]
 pub fn without<F: Flags + Copy>(bits: F, removed: F) -> F
     ensures { F.exact → F.set_of result ≡ without (F.set_of bits) (F.set_of removed) }

@@ -1,4 +1,4 @@
-//! The entry that a text begins with, where it stands plainly: with no blank and no comment.
+//! A fast path for the entry that a text begins with, if it has no blanks and no comment.
 
 ghost use Rattle.std.specs.Prelude.{IfSome, Some, [], ◌++◌, ◌≡◌, Ok};
 ghost use Rattle.acl_names.specs.Names.{Names};
@@ -9,7 +9,7 @@ use crate::Tag;
 use crate::reading::TagWord;
 use acl_names::ResolveNames;
 
-/// The word that the text begins with, and what stands after its colon.
+/// The word that the text begins with, and the text after its colon.
 pub(crate) fn read_word_front(text: &[u8]) -> Option<(TagWord, &[u8])>
     ensures { IfSome result (λ front. BeginsWithWord text.now front.0 front.1.now) }
 {
@@ -40,7 +40,7 @@ pub(crate) fn read_word_front(text: &[u8]) -> Option<(TagWord, &[u8])>
     None
 }
 
-/// What stands after these bytes, if the text begins with them.
+/// The text after these bytes, if it begins with them.
 #[inline(always)]
 fn after_prefix<'t>(front: &[u8], text: &'t [u8]) -> Option<&'t [u8]>
     ensures { IfSome result (λ rest. text.now ≡ front.now ++ rest.now) }
@@ -48,8 +48,8 @@ fn after_prefix<'t>(front: &[u8], text: &'t [u8]) -> Option<&'t [u8]>
     text.strip_prefix(front)
 }
 
-/// The tag that the word and a qualifier say: none, a decimal, or a name; and what stands after its
-/// colon.
+/// The tag that the word and its qualifier mean (none, a decimal, or a name), and the text after
+/// the qualifier's colon.
 pub(crate) fn read_tag_front<'t, N: ResolveNames>(
     names: &N,
     word: TagWord,
@@ -88,7 +88,7 @@ fn read_group_front<'t, N: ResolveNames>(names: &N, text: &'t [u8]) -> Option<(T
     }
 }
 
-/// The tag of an entry that names no one.
+/// The tag of an entry without a qualifier.
 fn tag_of_word(word: TagWord) -> Tag
     ensures { (names : Names) → tag_by names word (Some []) ≡ Ok result }
 {

@@ -11,14 +11,14 @@ ghost use Rattle.acl_posix.specs.Shapes.{HasShape};
 
 use crate::PieceFault;
 
-/// What a piece says is what the shapes of entries say. There is nothing to run here: a proof cites
-/// the contract.
+/// A piece means what the shapes of entries define. There is nothing to run here: a proof cites the
+/// contract.
 pub fn pieces_have_shapes()
     ensures { (known : Known) (piece : List ℕ) (entry : EntryValue)
         → (entry_of known piece ≡ Ok entry) ↔ HasShape known piece entry }
 {}
 
-/// A piece that is no entry is refused for an unknown name exactly if it is one where the name is
+/// A malformed piece is refused for an unknown name exactly if it would be an entry with the name
 /// known, and else for its shape. There is nothing to run here: a proof cites the contract.
 pub fn faults_of_pieces()
     ensures unknown_name { (known : Known) (piece : List ℕ)
@@ -27,8 +27,8 @@ pub fn faults_of_pieces()
         → (entry_of known piece ≡ Err PieceFault.Syntax) ↔ HasNoShape piece }
 {}
 
-/// Linux grants whatever the draft grants, and decides alike unless the mask is empty and the list
-/// names who asks. There is nothing to run here: a proof cites the contract.
+/// Linux grants whatever the draft grants, and decides as the draft does unless the mask is empty
+/// and the list names the user. There is nothing to run here: a proof cites the contract.
 pub fn linux_laws()
     ensures no_less { GrantsNoLess }
     ensures alike { DecidesAlike }

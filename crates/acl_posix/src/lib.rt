@@ -1,5 +1,5 @@
-//! POSIX access control lists, after 1003.1e draft 17, section 23: entries, the lists that are
-//! valid, the access check, and modes.
+//! POSIX access control lists, after 1003.1e draft 17, section 23: entries, valid lists, the access
+//! check, and modes.
 #![tactic(auto)]
 
 mod acl;

@@ -95,11 +95,10 @@ impl BitOr for Perms {
     }
 }
 
-/// The most characters of permissions.
+/// How many characters permissions may have.
 const MAX_PERMS_LEN: usize = 3;
 
-/// What 1 to 3 characters out of `r`, `w`, `x` and `-` say, of which no letter stands twice. It
-/// says no other permissions.
+/// Reads permissions: 1 to 3 of `r`, `w`, `x` and `-`, no letter twice. `None` for other texts.
 pub fn read_perms(text: &[u8]) -> Option<Perms>
     ensures value { option_map bits_of result ≡ perms_of_text text.now }
     ensures permissions { IfSome result (λ perms. IsPermissions (bits_of perms)) }
@@ -110,7 +109,8 @@ pub fn read_perms(text: &[u8]) -> Option<Perms>
     }
 }
 
-/// The permissions whose printed text the text begins with, and what stands after it.
+/// The permissions that the text begins with, in three characters as printed, and the text after
+/// them.
 pub(crate) fn read_perms_front(text: &[u8]) -> Option<(Perms, &[u8])>
     ensures begins { IfSome result (λ front. BeginsWithPerms text.now (bits_of front.0) front.1.now) }
     ensures permissions { IfSome result (λ front. IsPermissions (bits_of front.0)) }
@@ -165,14 +165,14 @@ fn are_perms_bytes(text: &[u8]) -> bool
         .all(|byte| matches!(*byte, b'r' | b'w' | b'x' | b'-'))
 }
 
-/// Whether the letter stands in the text.
+/// Whether the text has the letter.
 fn occurs(text: &[u8], letter: u8) -> bool
     ensures { result ≡ occurs letter text.now }
 {
     text.iter().filter(|byte| **byte == letter).count() >= 1
 }
 
-/// Whether the letter stands in the text twice, or more often.
+/// Whether the text has the letter twice or more often.
 fn repeats(text: &[u8], letter: u8) -> bool
     ensures { result ≡ repeats letter text.now }
 {

@@ -21,26 +21,26 @@ use std::alloc::AllocError;
 use std::mem;
 
 impl Acl {
-    /// Appends the entries in canonical order, one per line: `tag:qualifier:perms`, with the full
-    /// tag word, the name of a qualifier if the directory has one, else its decimal, and three
-    /// characters of permissions. If memory runs out, `out` is as it was; that happens only if
-    /// `out` has no room for `MAX_LINE` bytes an entry.
+    /// Appends the entries in canonical order, one a line, as `tag:qualifier:perms`: the long tag
+    /// word, the qualifier's name in the directory, or else its decimal, and three characters of
+    /// permissions. Fails only if memory runs out, and never if `out` has room for `MAX_LINE` bytes
+    /// an entry; then `out` is as it was.
     pub fn print_long(&self, directory: &Directory, out: &mut Vec<u8>) -> Result<(), AllocError>
         ensures text { OnOk result (out.new.items
             ≡ out.old.items ++ long_text directory.now self.now) }
         ensures unchanged { OnErr result (out.new.items ≡ out.old.items) }
         ensures room { OnErr result (vec_capacity out.old
             < vec_len out.old + length self.now * MAX_LINE) }
-        // What is printed is read as these entries.
+        // The text is read as these entries.
         ensures read_again { OnOk result (Spells (entry_of directory.now) MAX_ENTRIES
             (long_text directory.now self.now) self.now) }
     {
         print_lines(self.entries(), None, directory, out)
     }
 
-    /// Appends the same text, but if the mask removes something from an entry, a tab, `#effective:`
-    /// and three characters stand before the newline. If memory runs out, `out` is as it was; that
-    /// happens only if `out` has no room for `MAX_LINE` bytes an entry.
+    /// Like `print_long`, and if the mask limits an entry, a tab, `#effective:` and the permissions
+    /// that it leaves come before the newline. Fails only if memory runs out, and never if `out`
+    /// has room for `MAX_LINE` bytes an entry; then `out` is as it was.
     pub fn print_effective(
         &self,
         directory: &Directory,
@@ -51,7 +51,7 @@ impl Acl {
         ensures unchanged { OnErr result (out.new.items ≡ out.old.items) }
         ensures room { OnErr result (vec_capacity out.old
             < vec_len out.old + length self.now * MAX_LINE) }
-        // What is printed is read as these entries: a mark is a comment.
+        // The text is read as these entries: a mark is a comment.
         ensures read_again { OnOk result
             (Spells (entry_of directory.now) MAX_ENTRIES
             (effective_text directory.now (perms_of Tag.Mask self.now) self.now) self.now) }
@@ -59,9 +59,9 @@ impl Acl {
         print_lines(self.entries(), self.mask(), directory, out)
     }
 
-    /// Appends the text of `print_effective` with `default:` before each line: how a directory's
-    /// default list is shown. If memory runs out, `out` is as it was; that happens only if `out`
-    /// has no room for `MAX_DEFAULT_LINE` bytes an entry.
+    /// Appends the text of `print_effective` with `default:` before each line, as a directory's
+    /// default list is printed. Fails only if memory runs out, and never if `out` has room for
+    /// `MAX_DEFAULT_LINE` bytes an entry; then `out` is as it was.
     pub fn print_default(&self, directory: &Directory, out: &mut Vec<u8>) -> Result<(), AllocError>
         ensures text { OnOk result (out.new.items
             ≡ out.old.items ++ default_text directory.now (perms_of Tag.Mask self.now) self.now) }
@@ -76,8 +76,8 @@ impl Acl {
     }
 }
 
-/// Appends the entry as `print_long` does, without a newline: `tag:qualifier:perms`. If memory runs
-/// out, `out` is as it was.
+/// Appends the entry as `print_long` does, without a newline: `tag:qualifier:perms`. Fails only if
+/// memory runs out; then `out` is as it was.
 pub fn push_entry(entry: &Entry, directory: &Directory, out: &mut Vec<u8>) -> Result<(), AllocError>
     ensures text { OnOk result (out.new.items
         ≡ out.old.items ++ entry_text directory.now entry.now) }
@@ -89,8 +89,8 @@ pub fn push_entry(entry: &Entry, directory: &Directory, out: &mut Vec<u8>) -> Re
     Ok(())
 }
 
-/// Appends the permissions in three characters: `r` or `-`, `w` or `-`, `x` or `-`. If memory runs
-/// out, `out` is as it was.
+/// Appends the permissions in three characters: `r` or `-`, `w` or `-`, `x` or `-`. Fails only if
+/// memory runs out; then `out` is as it was.
 pub fn push_perms(perms: Perms, out: &mut Vec<u8>) -> Result<(), AllocError>
     ensures text { OnOk result (out.new.items ≡ out.old.items ++ perms_text (bits_of perms)) }
     ensures unchanged { OnErr result (out.new.items ≡ out.old.items) }
@@ -110,7 +110,7 @@ fn print_lines(
     ensures unchanged { OnErr result (out.new.items ≡ out.old.items) }
     ensures room { OnErr result (vec_capacity out.old
         < vec_len out.old + length entries.now * MAX_LINE) }
-    // What is printed is read as these entries: a mark is a comment.
+    // The text is read as these entries: a mark is a comment.
     ensures read_again { OnOk result (HavePermissions entries.now → length entries.now ≤ MAX_ENTRIES
         → Spells (entry_of directory.now) MAX_ENTRIES
         (effective_text directory.now (option_map bits_of mask) entries.now) entries.now) }
@@ -121,7 +121,7 @@ fn print_lines(
     Ok(())
 }
 
-/// Appends the lines. `out` has to have room for them. It works on a `Vec` of its own meanwhile, so
+/// Appends the lines. `out` must have room for them. It works on a `Vec` of its own meanwhile, so
 /// that the length stays in a register.
 fn put_lines(entries: &[Entry], mask: Option<Perms>, directory: &Directory, out: &mut Vec<u8>)
     requires within { length entries.now ≤ MAX_ENTRIES }
@@ -138,7 +138,7 @@ fn put_lines(entries: &[Entry], mask: Option<Perms>, directory: &Directory, out:
     *out = text;
 }
 
-/// Appends the lines with `default:` before each, if `out` has room for them.
+/// Appends the lines with `default:` before each. `out` must have room for them.
 fn put_default_lines(
     entries: &[Entry],
     mask: Option<Perms>,
@@ -222,7 +222,7 @@ pub(crate) fn put_letters(perms: Perms, out: &mut Vec<u8>)
     put_bytes(&[b':', own[0], own[1], own[2]], out);
 }
 
-/// Appends a colon, the permissions, the mark if the mask removes some, and a newline.
+/// Appends a colon, the permissions, the mark if the mask limits them, and a newline.
 #[inline(always)]
 fn put_perms(entry: &Entry, mask: Option<Perms>, out: &mut Vec<u8>)
     requires { vec_len out.old + 20 ≤ vec_capacity out.old }
@@ -244,7 +244,7 @@ fn put_perms(entry: &Entry, mask: Option<Perms>, out: &mut Vec<u8>)
     }
 }
 
-/// What the mask leaves of the entry's permissions, if it removes something.
+/// The permissions that the mask leaves to the entry; `None` if it limits nothing.
 fn left_by_mask(entry: &Entry, mask: Option<Perms>) -> Option<Perms>
     ensures { effective_mark (option_map bits_of mask) entry.now
         ≡ mark_of (option_map bits_of result) }
@@ -257,7 +257,7 @@ fn left_by_mask(entry: &Entry, mask: Option<Perms>) -> Option<Perms>
     }
 }
 
-/// Three characters: `r` or `-`, `w` or `-`, `x` or `-`.
+/// The permissions in three characters: `r` or `-`, `w` or `-`, `x` or `-`.
 fn letters(perms: Perms) -> [u8; 3]
     ensures { result ≡ perms_text (bits_of perms) }
 {

@@ -26,7 +26,7 @@ pub(crate) enum TagWord {
     Other,
 }
 
-/// The fields of an entry, of which the qualifier may be left out.
+/// The fields of an entry; the qualifier may be left out.
 #[derive(Clone, Copy, Debug)]
 struct Fields<'a> {
     tag: &'a [u8],
@@ -39,7 +39,7 @@ struct Fields<'a> {
 pub enum PieceFault {
     /// It has none of the shapes of entries.
     Syntax,
-    /// It has the shape of one, with a name that nobody has.
+    /// It has the shape of an entry, with a name that no user, or no group, has.
     UnknownName,
 }
 
@@ -54,7 +54,7 @@ impl From<NameFault> for PieceFault {
     }
 }
 
-/// Reads entries by these names.
+/// Reads entries, and resolves their names by `names`.
 #[derive(Drop)]
 pub struct EntryReader<'a, N: ResolveNames> {
     pub names: &'a N,
@@ -90,13 +90,13 @@ impl<'a, N: ResolveNames> PieceReader for EntryReader<'a, N> {
     }
 }
 
-/// The entries that the text spells: lines, of which each is cut at its first `#`, and between
-/// commas the entries, each of one of the shapes of the long text form (1003.1e draft 17, section
-/// 23), with blanks round the fields.
+/// Reads entries of the long text form (1003.1e draft 17, section 23): each line is cut at its
+/// first `#`, its entries are separated by commas, and blanks around the fields are ignored. A text
+/// may have no entries.
 ///
-/// It refuses a text for its first piece that is no entry, `Syntax` or `UnknownName`, or that is
-/// one too many, before that piece is read; and if memory runs out, even if a fault further on
-/// isn't yet found. A text of no entries is none.
+/// The first piece that is malformed (`Syntax` or `UnknownName`) or one too many (`TooMany`, before
+/// it is read) decides the fault. `Memory` means that memory ran out; the text may have a fault
+/// further on.
 pub fn read_entries<N: ResolveNames>(
     alloc: Global,
     text: &[u8],
@@ -105,7 +105,7 @@ pub fn read_entries<N: ResolveNames>(
     ensures read { IfOk result (λ entries. Spells (entry_by (N.names names.now)) MAX_ENTRIES
         text.now entries) }
     ensures fault { IfErr result (IsFaultBy (N.names names.now) text.now) }
-    // What is spelt is read, unless memory runs out; so a text spells at most one list.
+    // A text that spells entries is read, unless memory runs out; so it spells at most one list.
     ensures only { (entries : List EntryValue)
         → Spells (entry_by (N.names names.now)) MAX_ENTRIES text.now entries
         → MatchResult result (λ read. read ≡ entries) (λ fault. fault ≡ TextFault.Memory) }

@@ -16,17 +16,17 @@ use acl_names::{put_bytes, put_decimal};
 use std::alloc::AllocError;
 
 impl Acl {
-    /// Appends the entries in canonical order, on one line with commas between them, as in
-    /// `u::rwx,u:1001:r-x,g::---,m::rwx,o::---`: the letter of the tag, the id that it names in
-    /// decimal, and three characters of permissions. If memory runs out, `out` is as it was; that
-    /// happens only if `out` has no room for `MAX_SHORT_ENTRY` bytes an entry.
+    /// Appends the entries in canonical order, in one line with commas between them, as in
+    /// `u::rwx,u:1001:r-x,g::---,m::rwx,o::---`: the tag's letter, the id in decimal, and three
+    /// characters of permissions. Fails only if memory runs out, and never if `out` has room for
+    /// `MAX_SHORT_ENTRY` bytes an entry; then `out` is as it was.
     pub fn print_short(&self, out: &mut Vec<u8>) -> Result<(), AllocError>
         ensures text { OnOk result (out.new.items ≡ out.old.items ++ short_text self.now) }
         ensures unchanged { OnErr result (out.new.items ≡ out.old.items) }
         ensures room { OnErr result (vec_capacity out.old
             < vec_len out.old + length self.now * MAX_SHORT_ENTRY) }
         ensures have_ids { OnOk result (HaveIds self.now) }
-        // What is printed is read as these entries, whatever names a directory knows.
+        // The text is read as these entries, whatever names a directory has.
         ensures read_again { OnOk result ((known : Known)
             → Spells (entry_of known) MAX_ENTRIES (short_text self.now) self.now) }
     {
@@ -37,7 +37,7 @@ impl Acl {
     }
 }
 
-/// Appends the entries with commas between them, if `out` has room for them.
+/// Appends the entries with commas between them. `out` must have room for them.
 fn put_short_entries(entries: &[Entry], out: &mut Vec<u8>)
     requires within { length entries.now ≤ MAX_ENTRIES }
     requires room { vec_len out.old + length entries.now * MAX_SHORT_ENTRY ≤ vec_capacity out.old }
@@ -50,7 +50,7 @@ fn put_short_entries(entries: &[Entry], out: &mut Vec<u8>)
     }
 }
 
-/// Appends the entries with a comma before each, if `out` has room for them.
+/// Appends the entries with a comma before each. `out` must have room for them.
 fn put_further_entries(entries: &[Entry], out: &mut Vec<u8>)
     requires within { length entries.now ≤ MAX_ENTRIES }
     requires room { vec_len out.old + length entries.now * MAX_SHORT_ENTRY ≤ vec_capacity out.old }

@@ -14,7 +14,7 @@ use crate::{Entry, Tag};
 use arrayvec::ArrayVec;
 use std::alloc::{AllocError, Global};
 
-/// Whether each entry is shown before those after it.
+/// Whether the entries are in canonical order.
 #[inline(always)]
 pub(crate) fn are_canonical(entries: &[Entry]) -> bool
     ensures { IsTrue result ↔ IsCanonical entries.now }
@@ -22,8 +22,8 @@ pub(crate) fn are_canonical(entries: &[Entry]) -> bool
     entries.is_sorted_by(|a, b| a.tag.precedes(b.tag))
 }
 
-/// The entries in canonical order, if there are more than `INLINE_ENTRIES` and they don't stand so;
-/// else none.
+/// The entries in canonical order, if there are more than `INLINE_ENTRIES` and they aren't in this
+/// order; else empty.
 pub(crate) fn sorted_copy(alloc: Global, entries: &[Entry]) -> Result<Vec<Entry>, AllocError>
     requires { length entries.now ≤ MAX_ENTRIES }
     ensures copy { IfOk result (λ copy. IsSortedCopy entries.now copy.items) }
@@ -35,9 +35,9 @@ pub(crate) fn sorted_copy(alloc: Global, entries: &[Entry]) -> Result<Vec<Entry>
     copy_in_order(alloc, entries)
 }
 
-/// Updates the sorted copy of `entries` for an entry that is about to be pushed. There is no copy
-/// while there are at most `INLINE_ENTRIES`, or while all are in canonical order. After the first
-/// one out of order there is one, so that `Acl::new` doesn't have to sort.
+/// Updates the sorted copy of `entries` before `entry` is pushed. The copy is empty while there are
+/// at most `INLINE_ENTRIES`, or all are in canonical order. From the first one out of order on it
+/// has all entries, so that `Acl::new` doesn't have to sort.
 pub(crate) fn keep_sorted(
     copy: &mut Vec<Entry>,
     entries: &[Entry],
@@ -66,7 +66,7 @@ pub(crate) fn keep_sorted(
     Ok(())
 }
 
-/// Whether entries that a push found in order so far are still in order with another after them.
+/// Whether entries that are in canonical order stay so with one of this tag after them.
 fn stays_in_order(entries: &[Entry], tag: Tag) -> bool {
     match entries {
         [.., last] => last.tag.precedes(tag)
@@ -75,8 +75,8 @@ fn stays_in_order(entries: &[Entry], tag: Tag) -> bool {
     }
 }
 
-/// A copy of the entries in canonical order. Numbers are compared at once, so numbers are sorted,
-/// and the entries follow them.
+/// A copy of the entries in canonical order. It sorts numbers, which compare fast, and then puts
+/// the entries in their order.
 #[inline(never)]
 fn copy_in_order(alloc: Global, entries: &[Entry]) -> Result<Vec<Entry>, AllocError>
     requires { length entries.now ≤ MAX_ENTRIES }
@@ -88,7 +88,7 @@ fn copy_in_order(alloc: Global, entries: &[Entry]) -> Result<Vec<Entry>, AllocEr
     entries_at(alloc, entries, keys.as_slice())
 }
 
-/// A number for each entry: what the order goes by, and the entry's index.
+/// A number for each entry: its tag's rank and id, and then its index.
 fn keys_of(entries: &[Entry]) -> ArrayVec<u64, MAX_ENTRIES>
     requires { length entries.now ≤ MAX_ENTRIES }
     ensures { AreKeys entries.now (length entries.now) result.items }
@@ -101,7 +101,7 @@ fn keys_of(entries: &[Entry]) -> ArrayVec<u64, MAX_ENTRIES>
     keys
 }
 
-/// The entries that the numbers name, in their order.
+/// The entries in the order of the numbers, which end with their indices.
 fn entries_at(alloc: Global, entries: &[Entry], keys: &[u64]) -> Result<Vec<Entry>, AllocError>
     requires { All (IsKey entries.now) keys.now }
     ensures { IfOk result (λ copy. copy.items ≡ map (entry_at entries.now) keys.now) }

@@ -16,8 +16,8 @@ use Rattle.acl_queries.specs.Differences.{AreAlike, Differ, first_file, second_f
 
 module _ (before after : Decider) (bits : ℕ) (alike : DecideAlike before after bits) where
   -- the asker of a difference loses and gains nothing
-  nothing_told : (difference : Difference) → IsDifference before after bits difference → mask_bits difference.lost ∪ mask_bits difference.gained ≡ 0
-  nothing_told difference is =
+  nothing_reported : (difference : Difference) → IsDifference before after bits difference → mask_bits difference.lost ∪ mask_bits difference.gained ≡ 0
+  nothing_reported difference is =
       let asker = identity_of difference.asker in
       no_bits (mask_bits difference.lost ∪ mask_bits difference.gained) (λ bit.
       has-or (mask_bits difference.lost) (mask_bits difference.gained) bit
@@ -34,6 +34,6 @@ no_first_difference before after (request ∷ more) difference (here, later) (in
 -- lists that decide alike for every requester differ for nobody
 pub differ_for_nobody : (compared : Compared) (difference : Difference) → AreAlike compared → ¬ Differ compared difference
 differ_for_nobody compared difference (bits, requests) (inl is) =
-    is.some (nothing_told (decider_of (first_file compared)) (decider_of (second_file compared)) (bits_between compared.first compared.second) bits difference is)
+    is.some (nothing_reported (decider_of (first_file compared)) (decider_of (second_file compared)) (bits_between compared.first compared.second) bits difference is)
 differ_for_nobody compared difference (bits, requests) (inr (_, differs)) =
     no_first_difference (may (first_file compared)) (may (second_file compared)) (requests_between compared.first compared.second) difference requests differs

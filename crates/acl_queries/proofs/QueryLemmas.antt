@@ -8,7 +8,7 @@ use Rattle.acl_cli.specs.Failures.{failed_write}
 use Rattle.acl_cli.specs.Output.{AppendsFront}
 use Rattle.acl_cli.specs.declared.command.Ending.TheVariants.{Answered}
 use Rattle.acl_cli.specs.Faults.{Malformed}
-use Rattle.acl_cli.proofs.TellingLemmas.{Tells-nothing}
+use Rattle.acl_cli.proofs.ReportingLemmas.{Reports-nothing}
 use Rattle.acl_queries.specs.Queries.{FailsFor, IsAnswered, query_meaning}
 
 module _ {A I : Type 0} (located : Bool) (asked_in : List Row → Result A Malformed) (IsAnswer : A → List ℕ → Type 0) (rows : List Row) (asked : A) (read : asked_in rows ≡ Ok asked)
@@ -22,7 +22,7 @@ module _ {A I : Type 0} (located : Bool) (asked_in : List Row → Result A Malfo
   -- the answer went out
   pub Comes-written : Appends out out' text → Comes (query_meaning located asked_in IsAnswer rows) (Ok Answered) out out' err err input input
   Comes-written went = record {
-    answered = record { answer = answer; is = is_answered; ends = refl; text = went; beside = Tells-nothing err };
+    answered = record { answer = answer; is = is_answered; ends = refl; text = went; beside = Reports-nothing err };
     fails = tt;
     silent = tt;
     cut = tt;
@@ -36,7 +36,7 @@ module _ {A I : Type 0} (located : Bool) (asked_in : List Row → Result A Malfo
     answered = tt;
     fails = is_read;
     silent = λ few. absurd (omega (arith, few));
-    cut = inr (record { answer = answer; is = is_answered; text = front; said = 0; beside = Tells-nothing err });
+    cut = inr (record { answer = answer; is = is_answered; text = front; said = 0; beside = Reports-nothing err });
     untouched = λ none. refl;
     unread = λ two. refl;
   }

@@ -2,7 +2,7 @@
 use Rattle.std.proofs.Common.{◌≡◌, ◌≢◌, ◌∙◌, [], ℕ, Bool, false, true, List, Option, Result, Ok, Err, ap, inl, inr, refl, sym}
 use Rattle.clap.specs.Words.{App, Kinds, Row, fault_of, kind_of, matches_of}
 use Rattle.clap.specs.declared.error.kind.ErrorKind.{ErrorKind}
-use Rattle.acl_cli.specs.Commands.{Comes, IsTold, of_words, status_of_ending}
+use Rattle.acl_cli.specs.Commands.{Comes, IsReported, of_words, status_of_ending}
 use Rattle.acl_cli.specs.ErrorOutput.{ErrorText}
 use Rattle.acl_cli.specs.Failures.{IsRefusal, is_help, status_of}
 use Rattle.acl_cli.specs.declared.command.Ending.{Ending}
@@ -53,20 +53,20 @@ module _ {A : Type 0} (line : App) (helps located : Bool) (asked_in : List Row �
   abbrev reading : Result A MalformedField
   reading = asked_in (matches_of line words)
 
-  by_result : (result : Result Ending Failure) (status : ℕ) (out out' : Option (List ℕ)) (err err' told_err : ErrorText) (input input' : Unit {0})
-      → Comes (of_words line helps (query_meaning located asked_in IsAnswer) words) result out out' err err' input input' → IsTold result status err' told_err
+  by_result : (result : Result Ending Failure) (status : ℕ) (out out' : Option (List ℕ)) (err err' reported_err : ErrorText) (input input' : Unit {0})
+      → Comes (of_words line helps (query_meaning located asked_in IsAnswer) words) result out out' err err' input input' → IsReported result status err' reported_err
       → status ≢ 3 → IsStatusOf helps kinds reading status
-  by_result (Ok ending) status out out' err err' told_err input input' comes told ended =
+  by_result (Ok ending) status out out' err err' reported_err input input' comes reported ended =
       let went = comes.answered in
-      of_answer went.is (told.0 ∙ ap status_of_ending (sym went.ends))
+      of_answer went.is (reported.0 ∙ ap status_of_ending (sym went.ends))
     where
       of_answer : (of_words line helps (query_meaning located asked_in IsAnswer) words).Answers comes.answered.answer → status ≡ status_of_ending comes.answered.answer.ending → IsStatusOf helps kinds reading status
       of_answer (inl (is, (kind, among, asks), quiet, whole)) is_status = inr (kind, among, is_status ∙ ap status_of_ending whole ∙ helped helps kind is asks)
       of_answer (inr (taken, answered)) is_status = inl (taken, is_status ∙ ap status_of_ending answered.whole ∙ ap status_of_reading (sym answered.read))
-  by_result (Err failure) status out out' err err' told_err input input' comes told ended = rw told.0 (of_failure comes.fails)
+  by_result (Err failure) status out out' err err' reported_err input input' comes reported ended = rw reported.0 (of_failure comes.fails)
     where
       ends : status_of failure ≢ 3
-      ends three = ended (told.0 ∙ three)
+      ends three = ended (reported.0 ∙ three)
 
       of_failure : (of_words line helps (query_meaning located asked_in IsAnswer) words).Fails failure → IsStatusOf helps kinds reading (status_of failure)
       of_failure (inl refused) = of_refusal helps kinds reading failure refused ends
@@ -74,4 +74,4 @@ module _ {A : Type 0} (line : App) (helps located : Bool) (asked_in : List Row �
 
 pub the_status_of_its_words : {A : Type 0} (line : App) (helps located : Bool) (asked_in : List Row → Result A MalformedField) (IsAnswer : A → List ℕ → Type 0) → HasTheStatusOfItsWords line helps located asked_in IsAnswer
 the_status_of_its_words line helps located asked_in IsAnswer words status out out' err err' input input' ends =
-    by_result line helps located asked_in IsAnswer words ends.result status out out' err ends.between err' input input' ends.comes ends.told
+    by_result line helps located asked_in IsAnswer words ends.result status out out' err ends.between err' input input' ends.comes ends.reported

@@ -9,10 +9,10 @@ use Rattle.acl_posix.specs.Entry.{EntryValue}
 use Rattle.acl_cli.specs.declared.field_fault.FieldFault.{FieldFault}
 use Rattle.acl_cli.specs.declared.field_fault.FieldFault.TheVariants.{Acl}
 
--- a directory that knows no user and no group
+-- a directory without users and groups
 abbrev pub nobody : Known
 nobody = record { domain = codes "local"; users = []; groups = [] }
 
--- the access control list that a text spells
+-- the access control list of a text, or its fault
 abbrev pub acl_of : Text → Result (List EntryValue) FieldFault
 acl_of text = map_fault (λ fault. Acl fault) (posix.acl_of nobody (pieces text))

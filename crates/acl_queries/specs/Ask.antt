@@ -1,4 +1,4 @@
--- Which question words ask, field by field.
+-- The query that words ask, field by field.
 use Rattle.std.specs.Prelude.{◌≡◌, ◌≤◌, ◌↔◌, ◌⊎◌, ℕ, Bool, true, List, [], length, map, Some, None}
 use Rattle.std.specs.Prelude.{codes}
 use Rattle.clap.specs.Words.{Text, first_of, matches_of}

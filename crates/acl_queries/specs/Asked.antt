@@ -10,8 +10,8 @@ use Rattle.acl_cli.specs.declared.field_fault.FieldFault.TheVariants.{Acl}
 use Rattle.acl_cli.specs.Faults.{Malformed}
 use Rattle.acl_cli.specs.Fields.{flag_in, gids_in, given, id_in, of_word, perms_in}
 
--- whether the requester may do all of what is requested with a file of this owner, this group and
--- this access control list; and, with nfs4, which NFSv4 list it translates to
+-- whether a file with this owner, this group and this access control list grants the requester all
+-- of the request; and, with nfs4, which NFSv4 list it translates to
 pub record Asked : Type 0 where
   pub owner : ℕ
   pub group : ℕ

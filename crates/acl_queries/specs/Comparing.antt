@@ -1,4 +1,4 @@
--- Private steps, which no public clause cites: what a comparison compares.
+-- Private steps, which no public clause cites: the lists of a comparison.
 use Rattle.std.specs.Prelude.{ℕ}
 use Rattle.acl_queries.specs.Compared.{Compared}
 use Rattle.acl_bridge.specs.declared.any_acl.AnyAcl.{AnyAcl}

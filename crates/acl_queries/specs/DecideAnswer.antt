@@ -11,20 +11,20 @@ use Rattle.acl_queries.specs.Asked.{Asked, asked_in}
 use Rattle.acl_cli.specs.Commands.{Meaning}
 use Rattle.acl_queries.specs.Queries.{query_meaning}
 
--- whether what is asked is granted (1003.1e draft 17, section 23)
+-- whether the request is granted (1003.1e draft 17, section 23)
 abbrev pub is_granted : Asked → Bool
 is_granted asked = grants asked.acl asked.owner asked.group asked.requester asked.request
 
--- the line that answers
+-- the line of the answer
 abbrev pub answer_line : Bool → List ℕ
 answer_line granted = if granted then codes "granted" ++ newline ∷ []
     else codes "denied" ++ newline ∷ []
 
--- the entries of the NFSv4 list that an access control list translates to, one a line
+-- the entries of the NFSv4 list to which an access control list translates, one a line
 abbrev pub translation_text : List EntryValue → List ℕ
 translation_text acl = aces_text nobody (translation acl)
 
--- the line, and after it the translation if it is asked for
+-- the line, and after it the translation if the words ask for it
 abbrev pub answer_text : Asked → List ℕ
 answer_text asked = answer_line (is_granted asked)
     ++ (if asked.nfs4 then translation_text asked.acl else [])

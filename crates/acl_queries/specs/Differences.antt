@@ -1,4 +1,4 @@
--- What two lists decide differently, and how that is reported.
+-- What two lists grant differently, and how that is printed.
 use Rattle.std.specs.Prelude.{◌≡◌, ◌⊎◌, ◌==◌, ℕ, List, ◌∷◌, ◌++◌, Option, Some, None, codes}
 use Rattle.std.specs.Prelude.{decimal, if◌then◌else◌, true}
 use Rattle.clap.specs.Words.{Row}
@@ -25,7 +25,7 @@ first_file compared = file_with (owners_of compared) compared.first
 abbrev pub second_file : Compared → File
 second_file compared = file_with (owners_of compared) compared.second
 
--- both decide alike for every requester, of whatever uid and groups
+-- both grant every requester the same, of whatever uid and groups
 abbrev pub AreAlike : Compared → Type 0
 AreAlike compared = lists.AreAlike (first_file compared) (second_file compared)
 
@@ -33,7 +33,7 @@ AreAlike compared = lists.AreAlike (first_file compared) (second_file compared)
 abbrev pub Differ : Compared → Difference → Type 0
 Differ compared = lists.Differ (first_file compared) (second_file compared)
 
--- the groups of who asks, between commas (44), each once; - if there is none
+-- the requester's groups, with commas (44), each once; - if there is none
 abbrev pub gids_text : Option ℕ → Option ℕ → List ℕ
 gids_text None None = codes "-"
 gids_text (Some gid) None = decimal gid
@@ -45,7 +45,7 @@ gids_text (Some gid) (Some other) = if gid == other then decimal gid
 abbrev pub bits_text : ℕ → List ℕ
 bits_text bits = if bits == 0 then codes "-" else letters_text mask_table bits
 
--- who asks, what is lost and what is gained, each on a line of its own
+-- the requester, what is lost and what is gained, each on a line of its own
 abbrev pub difference_text : Difference → List ℕ
 difference_text difference =
     codes "differ\nrequester " ++ decimal difference.asker.uid ++ codes " "
@@ -56,12 +56,12 @@ difference_text difference =
 abbrev pub alike_text : List ℕ
 alike_text = codes "alike\n"
 
--- the text for a difference that was found, if any
+-- the answer for a difference, or for none
 abbrev pub comparison_text : Option Difference → List ℕ
 comparison_text None = alike_text
 comparison_text (Some difference) = difference_text difference
 
--- The text answers: it says that the lists are alike, and they are; or it tells of a difference,
+-- The text is an answer: it says that the lists are alike, and they are; or it prints a difference,
 -- and it is one. Which one, if there are several, isn't fixed.
 abbrev pub IsComparison : Compared → List ℕ → Type 0
 IsComparison compared text =

@@ -1,4 +1,4 @@
--- What `explain` says: the answer, and why it is so.
+-- What `explain` prints: the answer, and the entries that decide.
 use Rattle.std.specs.Prelude.{◌≡◌, ◌↔◌, Bool, true, IsTrue, List, ℕ, ◌++◌}
 use Rattle.clap.specs.Words.{Row}
 use Rattle.acl_posix.specs.Access.{grants}
@@ -14,14 +14,14 @@ use Rattle.acl_queries.specs.Reasons.{FileRequestValue, reasons}
 use Rattle.acl_bridge.specs.declared.any_acl.AnyAcl.TheVariants.{Posix, Nfs4}
 use Rattle.acl_bridge.specs.declared.any_acl.AnyAcl.{AnyAcl}
 
--- whether what is asked is granted
+-- whether the request is granted
 abbrev pub Decides : FileRequestValue → AnyAcl → Bool → Type 0
 Decides asked (Posix acl) granted =
     granted ≡ grants acl asked.owner asked.group asked.requester asked.request
 Decides asked (Nfs4 acl) granted = IsTrue granted
     ↔ Grants (matches asked.owner asked.group asked.requester) acl (mask_of asked.request)
 
--- the text says whether what is asked is granted, and why
+-- the text says whether the request is granted, and why
 pub record IsExplanation (explained : Explained) (text : List ℕ) : Type 0 where
   pub granted : Bool
   pub decides : Decides explained.asked explained.acl granted

@@ -8,8 +8,7 @@ use Rattle.acl_queries.specs.Reasons.{FileRequestValue}
 use Rattle.acl_bridge.specs.declared.any_acl.AnyAcl.{AnyAcl}
 use Rattle.acl_cli.specs.Faults.{Malformed}
 
--- why the requester may do all of what is requested with a file of this access control list, or may
--- not
+-- why a file with this access control list grants the requester all of the request, or doesn't
 pub record Explained : Type 0 where
   pub asked : FileRequestValue
   pub acl : AnyAcl

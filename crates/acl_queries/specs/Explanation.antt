@@ -1,4 +1,4 @@
--- Why an answer is as it is: which entries decide, and that no others count.
+-- Which entries decide a request, and that no others count.
 use Rattle.std.specs.Prelude.{◌≡◌, ◌==◌, ◌&&◌, ℕ, Bool, true, false, List, ◌++◌, Option, Some, None}
 use Rattle.std.specs.Prelude.{IsSomeAnd, slice_get, ◌^◌, if◌then◌else◌}
 use Rattle.std.specs.List.{AllZip, list_any, position_from}
@@ -17,9 +17,9 @@ use Rattle.acl_queries.specs.declared.explanation.Class.TheVariants.{Owner, User
 
 -- ---- POSIX lists
 
--- the class that decides about the requester: the owner's, if that is who asks; else that of the
--- user's own entry, if there is one; else that of the entries for the requester's groups, if there
--- are any; else the others'
+-- the class that decides about the requester: the owner's, if the requester is the owner; else that
+-- of the user's own entry, if there is one; else that of the entries for the requester's groups, if
+-- there are any; else the others'
 abbrev pub class_of : List EntryValue → ℕ → ℕ → Identity → Class
 class_of acl owner group requester =
     if requester.uid == owner then Owner
@@ -40,12 +40,12 @@ is_limited User = true
 is_limited Group = true
 is_limited _ = false
 
--- whether the permissions of such an entry count: it is of the class, or is the mask that limits it
+-- whether an entry with the tag counts: it is of the class, or is the mask that limits it
 abbrev pub counts : Class → ℕ → Identity → Tag → Bool
 counts class group requester tags.Mask = is_limited class
 counts class group requester tag = is_of_class class group requester tag
 
--- what the entry lacks of the request, as far as the mask leaves its permissions
+-- the permissions of the request that the entry lacks under the mask
 abbrev pub lacks : List EntryValue → EntryValue → ℕ → ℕ
 lacks acl entry request = without request (effective_perms acl entry)
 

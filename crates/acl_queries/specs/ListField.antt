@@ -37,7 +37,7 @@ abbrev pub as_ace : Result Nfsace4 PieceFault → Result Nfsace4 FieldFault
 as_ace (Ok ace) = Ok ace
 as_ace (Err fault) = Err (ace_fault fault)
 
--- why an NFSv4 list isn't read, as a failure of its field
+-- the failure of a field that isn't an NFSv4 list
 abbrev pub failure_of_aces : AceFault → Failure
 failure_of_aces aces.Syntax = Field (Acl acl.BadAcl)
 failure_of_aces aces.UnknownName = Field (Acl acl.UnknownName)

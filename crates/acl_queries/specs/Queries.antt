@@ -1,4 +1,4 @@
--- What fields mean that by themselves are answered.
+-- The meaning of fields whose answer depends on them alone.
 use Rattle.std.specs.Prelude.{◌≡◌, ⊤, ℕ, Bool, false, true, List, [], Result, Ok, Err, IsOk}
 use Rattle.clap.specs.Words.{Row}
 use Rattle.acl_cli.specs.Commands.{Answer, Meaning}
@@ -19,7 +19,8 @@ pub record IsAnswered {A : Type 0} (reading : Result A MalformedField)
   pub quiet : answer.beside ≡ []
   pub whole : answer.ending ≡ Answered
 
--- the failure is that of the reading, of which it tells where it stands or not; or out of memory
+-- the failure is that of reading the fields, with or without the place of a malformed one; or out
+-- of memory
 abbrev pub IsFailureOf : {A : Type 0} → Bool → Result A MalformedField → Failure → Type 0
 IsFailureOf true reading failure = Explains reading failure
 IsFailureOf false reading (Field fault) =
@@ -27,13 +28,13 @@ IsFailureOf false reading (Field fault) =
 IsFailureOf false reading (Lacks Memory) = ⊤
 IsFailureOf false reading _ = ⊥
 
--- they have no answer for the first of them that is malformed, or since memory ran out; or they
--- have one, and it can't be written
+-- the fields have no answer, since one of them is malformed or memory ran out; or they have one,
+-- and it can't be written
 abbrev pub FailsFor : {A : Type 0} → Bool → Result A MalformedField → Failure → Type 0
 FailsFor located reading (Lacks Output) = IsOk reading
 FailsFor located reading failure = IsFailureOf located reading failure
 
--- a failure tells where a malformed field stands, or not
+-- a failure reports the place of a malformed field, or not
 abbrev pub query_meaning : {A : Type 0} → Bool → (List Row → Result A MalformedField)
     → (A → List ℕ → Type 0) → List Row → Meaning
 query_meaning located asked_in IsAnswer rows = record {

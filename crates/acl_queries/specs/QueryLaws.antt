@@ -1,4 +1,4 @@
--- What the exit status of a query tells of its words.
+-- How the exit status of a query follows from its words.
 use Rattle.std.specs.Prelude.{◌≡◌, ◌≢◌, ◌⊎◌, ◌&&◌, ℕ, Bool, List, [], Option, Result, Ok, Err}
 use Rattle.std.specs.Prelude.{if◌then◌else◌}
 use Rattle.clap.specs.Words.{App, IsAmong, Kinds, Row, Text, fault_of, matches_of}
@@ -26,7 +26,7 @@ IsStatusOf helps kinds reading status =
     ((kinds ≡ []) × (status ≡ status_of_reading reading))
     ⊎ ((kind : ErrorKind) × IsAmong kind kinds × (status ≡ status_of_kind helps kind))
 
--- a query that ended has the status of its words, unless something lacks
+-- a query that ended has the status of its words, unless something is lacking
 abbrev pub HasTheStatusOfItsWords : {A : Type 0} → App → Bool → Bool
     → (List Row → Result A Malformed) → (A → List ℕ → Type 0) → Type 0
 HasTheStatusOfItsWords line helps located asked_in IsAnswer = (words : List Text) (status : ℕ)

@@ -1,4 +1,4 @@
--- Why a list decides as it does about a request.
+-- The entries of a list that decide about a request.
 use Rattle.std.specs.Prelude.{ℕ, ◌+◌, ◌^◌, Bool, List, [], ◌∷◌, ◌++◌, Option, Some, None, codes}
 use Rattle.std.specs.Prelude.{decimal, if◌then◌else◌, slice_get}
 use Rattle.std.specs.List.{flat_map}
@@ -23,7 +23,7 @@ use Rattle.acl_queries.specs.Explanation.{class_of, first_speaker, is_limited, i
 use Rattle.acl_queries.specs.declared.explanation.Class.TheVariants as class
 use Rattle.acl_queries.specs.declared.explanation.Class.{Class}
 
--- the requester asks for these permissions, of a file of this owner and this group
+-- a request of permissions, by a requester, for a file of this owner and this group
 pub record FileRequestValue : Type 0 where
   pub owner : ℕ
   pub group : ℕ
@@ -42,14 +42,14 @@ class_word class.Other = codes "other"
 abbrev pub class_line : Class → List ℕ
 class_line class = codes "class " ++ class_word class ++ codes "\n"
 
--- `entry ENTRY EFFECTIVE LACKS`: what the entry gives under the mask, and what of the request it
--- lacks
+-- `entry ENTRY EFFECTIVE LACKS`: the entry, its permissions under the mask, and those of the
+-- request that it lacks
 abbrev pub entry_line : Known → List EntryValue → ℕ → EntryValue → List ℕ
 entry_line known acl request entry = codes "entry " ++ entry_text known entry ++ codes " "
     ++ perms_text (effective_perms acl entry) ++ codes " " ++ perms_text (lacks acl entry request)
     ++ codes "\n"
 
--- of an entry that is of the class
+-- for an entry of the class
 abbrev pub entry_line_if : Known → Class → FileRequestValue → List EntryValue → EntryValue → List ℕ
 entry_line_if known class asked acl entry =
     if is_of_class class asked.group asked.requester entry.tag
@@ -75,12 +75,12 @@ posix_reasons known asked acl =
 
 -- ---- NFSv4 lists
 
--- `K ACE`, K being the place of the entry there, from 1; at a place that the list has not, nothing
+-- `K ACE`, K being the entry's place, from 1; empty for a place that the list doesn't have
 abbrev pub placed_text : Known → ℕ → Option Nfsace4 → List ℕ
 placed_text known place (Some ace) = decimal (place + 1) ++ codes " " ++ ace_text known ace
 placed_text known place None = []
 
--- that of the entry that speaks; or `- -` if none speaks
+-- that of the entry that decides; or `- -` if none does
 abbrev pub speaker_text : Known → List Nfsace4 → Option ℕ → List ℕ
 speaker_text known aces (Some place) = placed_text known place (slice_get aces place)
 speaker_text known aces None = codes "- -"
@@ -90,16 +90,16 @@ abbrev pub bit_line : Known → (Who → Bool) → List Nfsace4 → ℕ → List
 bit_line known applies aces bit = letters_text mask_table bit ++ codes " "
     ++ speaker_text known aces (first_speaker applies bit aces) ++ codes "\n"
 
--- of a bit that is asked for
+-- for a bit that is requested
 abbrev pub bit_line_if : Known → (Who → Bool) → ℕ → List Nfsace4 → ℕ → List ℕ
 bit_line_if known applies mask aces bit = if has_all mask bit then bit_line known applies aces bit
     else []
 
--- the bits that permissions stand for, each by itself, in the order of the letters
+-- the bits that permissions mean, each by itself, in the order of the letters
 abbrev pub bits_of_permissions : List ℕ
 bits_of_permissions = 2 ^ read_data ∷ 2 ^ write_data ∷ 2 ^ append_data ∷ 2 ^ execute ∷ []
 
--- a line for each of them that is asked for
+-- a line for each of them that is requested
 abbrev pub bit_lines : Known → (Who → Bool) → ℕ → List Nfsace4 → List ℕ
 bit_lines known applies mask aces =
     flat_map (bit_line_if known applies mask aces) bits_of_permissions

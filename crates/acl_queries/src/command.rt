@@ -1,4 +1,4 @@
-//! What the commands share: lists as fields, and how an answer is made first and then written.
+//! What the commands share: lists in fields, and making an answer before writing it.
 
 pub(crate) mod acl;
 pub(crate) mod answer;

@@ -11,23 +11,22 @@ use comparison::Comparison;
 use std::alloc::Global;
 use std::io::{Read, Write};
 
-/// Tells whether anybody at all gains or loses access if one access control list takes the place of
-/// another. The words are those of the command, its name first: `compare --owner N --group N STYLE
-/// TEXT STYLE TEXT`, where a STYLE is `posix` or `nfs4`. The answer goes to `out`: `alike`, if both
-/// lists decide alike for every requester, of whatever uid and groups; else `differ`, and who is
-/// decided about differently, what is lost and what is gained, each on a line of its own. Who is
-/// reported, if there are several, isn't fixed; it is someone in at most two groups. All of it is
-/// made first and then written at once. What is wrong with the words goes to `err`; a fault while
-/// writing there changes nothing.
+/// Reports whether anybody gains or loses access if one access control list replaces another. The
+/// words begin with the command's name: `compare --owner N --group N STYLE TEXT STYLE TEXT`, where
+/// STYLE is `posix` or `nfs4`. The answer goes to `out`, written at once after all of it is made:
+/// `alike`, if both lists grant every requester the same, of whatever uid and groups; else
+/// `differ`, and a line each with a requester who isn't granted the same, what is lost and what is
+/// gained. Which requester is reported isn't fixed, if there are several; it is one in at most two
+/// groups. Failures go to `err`; a fault while writing there changes nothing.
 ///
-/// Between NFSv4 lists all bits of a mask are compared, and between a POSIX list and an NFSv4 list
-/// those of a file mode, each by itself: so `alike` says of such two nothing of requests of several
-/// permissions, which one of them may grant as a whole and the other not. Between POSIX lists the
-/// permissions are compared, first each by itself and then the requests of several.
+/// Between NFSv4 lists it compares all bits of a mask, and between a POSIX list and an NFSv4 list
+/// those of a file mode, each by itself: `alike` then says nothing about requests of several
+/// permissions, which one of the lists may grant as a whole and the other not. Between POSIX lists
+/// it compares the permissions, first each by itself and then the requests of several.
 ///
 /// The exit status is 0 with the answer, and with help, which goes to `out` too; 1 if a field is
-/// malformed, 2 if the parser of command lines refuses the words, and 3 if memory runs out or the
-/// answer can't be written.
+/// malformed, 2 if the parser refuses the words, and 3 if memory runs out or the answer can't be
+/// written.
 #[derive(Clone, Copy)]
 pub struct Compare;
 

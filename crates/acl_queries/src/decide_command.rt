@@ -11,15 +11,14 @@ use question::Question;
 use std::alloc::Global;
 use std::io::{Read, Write};
 
-/// Tells whether an access control list grants a request. The words are those of the command, its
-/// name first: `decide [--nfs4] --owner N --group N --uid N [--gids N,N..] --perms P TEXT`. The
-/// answer, `granted` or `denied` and a newline, goes to `out`, and with `--nfs4` so do, after it,
-/// the entries of the NFSv4 list that decides alike, one a line. All of it is made first and then
-/// written at once. What is wrong with the words goes to `err`, and so does help; a fault while
-/// writing there changes nothing.
+/// Reports whether an access control list grants a request. The words begin with the command's
+/// name: `decide [--nfs4] --owner N --group N --uid N [--gids N,N..] --perms P TEXT`. The answer
+/// goes to `out`, written at once after all of it is made: a line `granted` or `denied`, and with
+/// `--nfs4` the entries of the NFSv4 list that grants the same, one a line. Failures and help go to
+/// `err`; a fault while writing there changes nothing.
 ///
-/// The exit status is 0 with the answer, 1 if a field is malformed, 2 if the parser of command
-/// lines refuses the words, and 3 if memory runs out or the answer can't be written.
+/// The exit status is 0 with the answer, 1 if a field is malformed, 2 if the parser refuses the
+/// words, and 3 if memory runs out or the answer can't be written.
 #[derive(Clone, Copy)]
 pub struct Decide;
 

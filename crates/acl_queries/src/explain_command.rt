@@ -11,23 +11,22 @@ use question::Question;
 use std::alloc::Global;
 use std::io::{Read, Write};
 
-/// Tells whether an access control list grants a request, and which entries decide. The words are
-/// those of the command, its name first: `explain --owner N --group N --uid N [--gids N,N..]
-/// --perms P STYLE TEXT`, where STYLE is `posix` or `nfs4`. The answer goes to `out`: `granted` or
-/// `denied`, and then why, a line each.
+/// Reports whether an access control list grants a request, and which entries decide. The words
+/// begin with the command's name: `explain --owner N --group N --uid N [--gids N,N..] --perms P
+/// STYLE TEXT`, where STYLE is `posix` or `nfs4`. The answer goes to `out`, written at once after
+/// all of it is made: `granted` or `denied`, and then the reasons, a line each.
 ///
-/// Of a POSIX list: `class` and the class of entries that decides; for each entry of the class, in
-/// canonical order, `entry`, the entry, what it gives under the mask and what it lacks of the
-/// request; and `mask` and its permissions if it limits the class. Of an NFSv4 list, for each bit
-/// that is asked for: its letter, the place from 1 of the entry that speaks first of it, and that
-/// entry; or two hyphens if none does.
+/// For a POSIX list these are `class` and the class of entries that decides; for each entry of the
+/// class, in canonical order, `entry`, the entry, its permissions under the mask, and those of the
+/// request that it lacks; and `mask` and its permissions if it limits the class. For an NFSv4 list
+/// there is a line for each bit that is requested: its letter, the place, from 1, of the first
+/// entry that allows or denies it, and that entry; or two hyphens if none does.
 ///
-/// All of it is made first and then written at once. What is wrong with the words goes to `err`; a
-/// fault while writing there changes nothing.
+/// Failures go to `err`; a fault while writing there changes nothing.
 ///
 /// The exit status is 0 with the answer, and with help, which goes to `out` too; 1 if a field is
-/// malformed, 2 if the parser of command lines refuses the words, and 3 if memory runs out or the
-/// answer can't be written.
+/// malformed, 2 if the parser refuses the words, and 3 if memory runs out or the answer can't be
+/// written.
 #[derive(Clone, Copy)]
 pub struct Explain;
 

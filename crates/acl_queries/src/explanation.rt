@@ -1,4 +1,4 @@
-//! Why an answer is as it is: which entries decide about somebody.
+//! Which entries of a list decide about a requester.
 ghost use Rattle.std.specs.Prelude.{◌≡◌};
 ghost use Rattle.std.specs.List.{list_any};
 ghost use Rattle.acl_nfs4.specs.Mask.{mask_bits};
@@ -14,7 +14,7 @@ use acl_nfs4::{Ace, Acl4, Mask};
 use acl_posix::{Acl, Entry, Perms, Tag, without};
 use bitflags::Flags;
 
-/// The class of entries of a POSIX list that decides about somebody.
+/// The class of entries of a POSIX list that decides about a requester.
 #[derive(Clone, Copy, Debug, PartialEq, Eq)]
 pub enum Class {
     /// The owner's entry.
@@ -27,7 +27,7 @@ pub enum Class {
     Other,
 }
 
-/// Whether it is the tag of a group that the requester is in: the file's group, or one by its id.
+/// Whether the tag is that of a group which the requester is in: the file's group, or one by id.
 fn is_for_group_of(requester: &Requester, group: Gid, tag: Tag) -> bool
     ensures { result ≡ is_for_group_of requester.now group tag }
 {
@@ -54,7 +54,7 @@ fn has_group(entries: &[Entry], requester: &Requester, group: Gid) -> bool
         .any(|entry| is_for_group_of(requester, group, entry.tag))
 }
 
-/// The class of entries that decides about the requester of a file of this owner and this group.
+/// The class of entries that decides about the requester, for a file of this owner and this group.
 pub fn class_of(acl: &Acl, owner: Uid, group: Gid, requester: &Requester) -> Class
     ensures { result ≡ class_of acl.now owner group requester.now }
 {
@@ -89,8 +89,7 @@ impl Class {
         matches!(self, Class::User | Class::Group)
     }
 
-    /// Whether the permissions of an entry with the tag count: it is of the class, or is the mask
-    /// that limits it.
+    /// Whether an entry with the tag counts: it is of the class, or is the mask that limits it.
     pub fn counts(self, group: Gid, requester: &Requester, tag: Tag) -> bool
         ensures { result ≡ counts self group requester.now tag }
     {
@@ -101,23 +100,22 @@ impl Class {
     }
 }
 
-/// What the entry lacks of the request, as far as the mask leaves its permissions.
+/// The permissions of the request that the entry lacks under the mask.
 pub fn lacks(acl: &Acl, entry: &Entry, request: Perms) -> Perms
     ensures { bits_of result ≡ lacks acl.now entry.now (bits_of request) }
 {
     without(request, acl.effective_perms(entry))
 }
 
-/// Whether the entry decides about the requester, and has all of the bits.
+/// Whether the entry allows or denies the requester all of the bits.
 fn speaks(ace: &Ace, owner: Uid, group: Gid, requester: &Requester, bits: Mask) -> bool
     ensures { result ≡ speaks_of (matches owner group requester.now) (mask_bits bits) ace.now }
 {
     ace.concerns(owner, group, requester) && ace.mask().contains(bits)
 }
 
-/// The place of the entry that speaks first of the bit, a mask of one, to the requester of a file
-/// of this owner and this group; none if none does, and the bit is denied. What that entry says of
-/// it is the answer.
+/// The place of the first entry that allows or denies the requester the bit, a mask of one, for a
+/// file of this owner and this group: it decides. `None` if no entry does, and the bit is denied.
 pub fn first_speaker(
     acl: &Acl4,
     owner: Uid,

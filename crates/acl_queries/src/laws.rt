@@ -18,34 +18,33 @@ ghost use Rattle.acl_queries.specs.Explanation.{LaterEntriesDontCount, OtherEntr
 ghost use Rattle.acl_queries.specs.Explanation.{SilentEntriesDontCount};
 ghost use Rattle.acl_queries.specs.QueryLaws.{HasTheStatusOfItsWords};
 
-/// The exit status of `decide`, `explain` and `compare` is that of their words, unless something is
-/// lacking (3): 2 if the parser of command lines refuses them, 1 if a field is malformed, and else
-/// 0; and 0 of `explain` and `compare` if the words ask for help. What ended as the words mean has
-/// no other.
+/// The exit status of `decide`, `explain` and `compare` follows from their words, unless something
+/// is lacking (3): 2 if the parser refuses them, 1 if a field is malformed, and else 0; and 0 for
+/// `explain` and `compare` if the words ask for help. No run that ends as the words mean has
+/// another.
 pub fn statuses_are_those_of_the_words()
     ensures decide { HasTheStatusOfItsWords decide_line false false asked_in IsDecideText }
     ensures explain { HasTheStatusOfItsWords explain_line true true explained_in IsExplanation }
     ensures compare { HasTheStatusOfItsWords compare_line true true compared_in IsComparison }
 {}
 
-/// Words of `decide` ask what their fields give, each field by itself, and nothing else.
+/// The query of `decide` is what its fields give, each field by itself, and nothing else.
 pub fn words_ask_what_they_give()
     ensures { (words : List (List ℕ)) (asked : Asked)
         → Ask words asked ↔ (Takes decide_line words
         × (asked_in (matches_of decide_line words) ≡ Ok asked)) }
 {}
 
-/// Lists that decide alike for every requester differ for nobody: of the two answers of `compare`
-/// at most one is right.
+/// Lists that grant every requester the same differ for nobody: of the two answers of `compare` at
+/// most one is right.
 pub fn alike_lists_differ_for_nobody()
     ensures { (compared : Compared) (difference : Difference) → AreAlike compared
         → Differ compared difference → ⊥ }
 {}
 
-/// Of a POSIX list one class of entries decides, and no permissions count but those of its entries
-/// and, where the class is under it, the mask's. Of an NFSv4 list the first entry that speaks of a
-/// bit decides it: what comes after counts for nothing, and so do entries that stay silent about
-/// it.
+/// In a POSIX list one class of entries decides, and no permissions count but those of its entries
+/// and, if the mask limits the class, the mask's. In an NFSv4 list the first entry that allows or
+/// denies a bit decides it: later entries don't count, and neither do those without the bit.
 pub fn explanation_laws()
     ensures classes { ClassesDecide }
     ensures others { OtherEntriesDontCount }

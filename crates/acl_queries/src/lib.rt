@@ -1,6 +1,6 @@
-//! Queries of access control lists by themselves, from the words of a command line to what is
-//! printed: who may do what (`decide`), why (`explain`), and who gains or loses what between two
-//! lists (`compare`).
+//! Queries about access control lists by themselves, from the words of a command line to the
+//! printed answer: who may do what (`decide`), why (`explain`), and who gains or loses what between
+//! two lists (`compare`).
 #![tactic(auto)]
 
 mod command;
@@ -20,4 +20,4 @@ pub use laws::{
     alike_lists_differ_for_nobody, explanation_laws, statuses_are_those_of_the_words,
     words_ask_what_they_give,
 };
-pub use reasons::{FileRequest, push_reasons};
+pub use reasons::{FileRequest, push_bit, push_reasons};

@@ -1,4 +1,4 @@
-//! Why a list decides as it does about a request.
+//! The entries of a list that decide about a request.
 ghost use Rattle.std.specs.Prelude.{◌≡◌, ◌++◌, OnOk};
 ghost use Rattle.acl_bridge.specs.Files.{view_list};
 ghost use Rattle.acl_queries.specs.Reasons.{reasons};
@@ -9,12 +9,13 @@ mod posix;
 use acl_bridge::AnyAclRef;
 use acl_names::{Directory, Gid, Requester, Uid};
 use acl_posix::Perms;
+pub use nfs4::push_bit;
 use nfs4::push_nfs4_reasons;
 use posix::push_posix_reasons;
 use std::alloc::AllocError;
 use std::marker::Model;
 
-/// Who asks for which permissions, of a file of this owner and this group.
+/// A request of permissions, by a requester, for a file of this owner and this group.
 #[derive(Drop)]
 pub struct FileRequest<'t> {
     pub owner: Uid,
@@ -37,8 +38,8 @@ impl<'t> Model for FileRequest<'t> {
     } };
 }
 
-/// Appends why the list decides about the request as it does, by the entries that decide, with ids
-/// as the directory names them. It fails only if memory runs out.
+/// Appends the entries of the list that decide about the request, with ids as the directory names
+/// them. Fails only if memory runs out.
 pub fn push_reasons(
     asked: &FileRequest<'_>,
     list: AnyAclRef<'_>,

@@ -1,3 +1,4 @@
 pub mod BlocksLemmas
 pub mod ClosingLemmas
 pub mod SeenLemmas
+pub mod StrangersLemmas

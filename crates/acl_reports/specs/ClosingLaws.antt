@@ -1,4 +1,4 @@
--- What is said at the end of a listing, and how the answer ends, by what became of its blocks.
+-- The closing lines of a listing, and how the answer ends, by what became of its blocks.
 use Rattle.std.specs.Prelude.{◌≡◌, ◌==◌, ℕ, Bool, true, false, List, [], ◌∷◌, ◌++◌, codes}
 use Rattle.std.specs.Prelude.{decimal, is_some, length}
 use Rattle.std.specs.List.{count_by, list_all, list_any}
@@ -8,11 +8,11 @@ use Rattle.acl_listings.specs.Guess.{guess_of, guess_words}
 use Rattle.acl_reports.specs.Listed.{Item, closing, ending_of, fault_in, is_unread, no_blocks}
 use Rattle.acl_reports.specs.Listed.{tally_with}
 
--- the block isn't answered
+-- the block can't be evaluated
 abbrev pub is_refused : Item → Bool
 is_refused item = is_some (fault_in item.part)
 
--- it doesn't read, whatever the way to it
+-- the block is malformed, whatever its parents are
 abbrev pub is_malformed : Item → Bool
 is_malformed item = is_unread (fault_in item.part) == 1
 
@@ -26,8 +26,8 @@ counts_line name items = line_of_words (name ++ codes ": " ++ decimal (count_by 
 abbrev pub taken_for : List ℕ → Item → List ℕ
 taken_for name item = line_of_words (name ++ codes ": " ++ guess_words (guess_of item.block.text))
 
--- where there is no block, that is said; where all are answered, nothing; where some aren't and
--- some read, how many aren't; and where none reads, what the first may be before that
+-- without blocks there is a line about that; if all can be evaluated, none; if some can't, and some
+-- are files, a line with how many can't; and if none is a file, before it a guess about the first
 pub record ClosingShapes : Type 0 where
   pub no_block : (name : List ℕ) → said_at_end name [] ≡ line_of_words (name ++ codes ": no file")
   pub answered : (name : List ℕ) (item : Item) (items : List Item)
@@ -38,7 +38,7 @@ pub record ClosingShapes : Type 0 where
       → list_all is_malformed (item ∷ items) ≡ true
       → said_at_end name (item ∷ items) ≡ taken_for name item ++ counts_line name (item ∷ items)
 
--- the answer ends as one in part exactly where there is no block, or one isn't answered
+-- the answer is partial exactly if there is no block, or one can't be evaluated
 pub record EndingShapes : Type 0 where
   pub no_block : ending_of (tally_with no_blocks []) ≡ InPart
   pub answered : (item : Item) (items : List Item) → list_any is_refused (item ∷ items) ≡ false

@@ -1,4 +1,4 @@
--- What decides about access to files of listings.
+-- The list that decides access to a file of a listing.
 use Rattle.acl_posix.specs.Linux.{linux_list}
 use Rattle.acl_bridge.specs.Files.{File, file_with}
 use Rattle.acl_bridge.specs.declared.any_acl.AnyAcl.{AnyAcl}
@@ -7,8 +7,8 @@ use Rattle.acl_listings.specs.Block.{FileValue}
 use Rattle.acl_listings.specs.declared.lists.Lists.{Lists}
 use Rattle.acl_listings.specs.declared.lists.Lists.TheVariants as lists
 
--- the list that decides access to a file with these: of POSIX lists the one that Linux looks at,
--- since default lists decide none
+-- the list that decides access to a file with these lists: of POSIX lists the access list as Linux
+-- evaluates it
 abbrev pub deciding_list : Lists → AnyAcl
 deciding_list (lists.Posix access default) = Posix (linux_list access)
 deciding_list (lists.Nfs4 acl) = Nfs4 acl

@@ -1,8 +1,10 @@
 pub mod Files
+pub mod Strangers
 pub mod Listed
-pub mod Telling
+pub mod Reporting
 pub mod Seen
 pub mod ListingMeaning
 pub mod Paths
 pub mod Placed
 pub mod ClosingLaws
+pub mod StrangersLaws

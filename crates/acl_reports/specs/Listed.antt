@@ -1,4 +1,4 @@
--- What is reported of a listing, block by block, and how the answer ends.
+-- What is reported for a listing, block by block, and how the answer ends.
 use Rattle.std.specs.Prelude.{◌≡◌, ◌⊎◌, ℕ, ◌+◌, ◌==◌, ◌||◌, not, List, [], ◌∷◌, ◌++◌, fold}
 use Rattle.std.specs.Prelude.{IfSome, Option, Some, None, Result, Ok, Err, codes, decimal}
 use Rattle.std.specs.Prelude.{if◌then◌else◌}
@@ -18,9 +18,12 @@ use Rattle.acl_names.specs.Shown.{shown}
 use Rattle.acl_listings.specs.declared.fault.BlockFault.{BlockFault}
 use Rattle.acl_listings.specs.declared.fault.BlockFault.TheVariants.{InvalidAcl, UnknownWay}
 use Rattle.acl_listings.specs.declared.guess.Guess.{Guess}
+use Rattle.acl_reports.specs.Strangers.{no_strangers, none_sought, strangers_line, with_stranger}
+use Rattle.acl_reports.specs.declared.stranger.Stranger.{Stranger}
+use Rattle.acl_reports.specs.declared.strangers.Strangers.{Strangers}
 use Rattle.acl_reports.specs.declared.tally.Tally.{Tally}
 
--- what a block results in: what is reported of it, or why that isn't known
+-- what a block results in: what is reported for it, or why that isn't known
 abbrev pub Part : Type 0
 Part = Result (List ℕ) BlockFault
 
@@ -37,12 +40,12 @@ items_after part earlier (block ∷ blocks) =
     ∷ items_after part (earlier ++ block.text ∷ []) blocks
 
 -- what is reported on standard output
-abbrev pub told_of : Part → List ℕ
-told_of (Ok text) = text
-told_of (Err fault) = []
+abbrev pub reported_of : Part → List ℕ
+reported_of (Ok text) = text
+reported_of (Err fault) = []
 
-abbrev pub told : List Item → List ℕ
-told items = flat_map (λ item. told_of item.part) items
+abbrev pub reported : List Item → List ℕ
+reported items = flat_map (λ item. reported_of item.part) items
 
 -- the word of a fault, and the rule that a list breaks
 abbrev pub fault_words : BlockFault → List ℕ
@@ -57,7 +60,7 @@ IsFaultLine name names block fault line = (at : ℕ) × IsFaultyAt names fault b
 
 -- the text is what is said of a block on standard error: its fault's line, if there is one
 abbrev pub IsSaid : List ℕ → Names → Block → Part → List ℕ → Type 0
-IsSaid name names block (Ok told) text = text ≡ []
+IsSaid name names block (Ok reported) text = text ≡ []
 IsSaid name names block (Err fault) text = IsFaultLine name names block fault text
 
 -- of each of them, one after the other
@@ -125,40 +128,73 @@ abbrev pub ending_of : Tally → Ending
 ending_of tally =
     if (tally.blocks == 0) || not (tally.faults == 0) then InPart else Answered
 
+-- how many of these files name ids without an account, where their texts do so first
+abbrev pub with_stranger_of : (List ℕ → Option Stranger) → Strangers → Item → Strangers
+with_stranger_of stranger strangers item =
+    with_stranger strangers item.block.line (stranger item.block.text)
+
+abbrev pub strangers_with : (List ℕ → Option Stranger) → Strangers → List Item → Strangers
+strangers_with stranger strangers items = fold (with_stranger_of stranger) strangers items
+
+-- all that is said at the end
+abbrev pub last_lines : List ℕ → Tally → Strangers → List ℕ
+last_lines name tally strangers =
+    closing name tally ++ strangers_line name tally.blocks strangers
+
+abbrev pub last_lines_with : List ℕ → (List ℕ → Option Stranger) → Tally → Strangers → List Item
+    → List ℕ
+last_lines_with name stranger tally strangers items =
+    last_lines name (tally_with tally items) (strangers_with stranger strangers items)
+
 -- the texts are what is reported and said of the first of them, and maybe at the end, of a listing
 -- of which so much was counted before
-pub record AreBegun (name : List ℕ) (names : Names) (tally : Tally) (items : List Item)
-    (text more : List ℕ) : Type 0 where
+pub record AreBegun (name : List ℕ) (names : Names) (stranger : List ℕ → Option Stranger)
+    (tally : Tally) (strangers : Strangers) (items : List Item) (text more : List ℕ) : Type 0 where
   pub first : List Item
   pub rest : List Item
   pub are : items ≡ first ++ rest
-  pub text_is : text ≡ told first
+  pub text_is : text ≡ reported first
   pub said : List ℕ
   pub said_are : AreSaid name names first said
   pub more_is : (more ≡ said)
-      ⊎ ((rest ≡ []) × (more ≡ said ++ closing name (tally_with tally first)))
+      ⊎ ((rest ≡ []) × (more ≡ said ++ last_lines_with name stranger tally strangers first))
 
 -- the answer about the listing of this name, of whose blocks this is reported
-pub record IsAnswer (name : List ℕ) (names : Names) (items : List Item) (answer : Answer) : Type 0
+pub record IsAnswer (name : List ℕ) (names : Names) (stranger : List ℕ → Option Stranger)
+    (items : List Item) (answer : Answer) : Type 0
   where
-    pub text : answer.text ≡ told items
+    pub text : answer.text ≡ reported items
     pub said : List ℕ
     pub said_are : AreSaid name names items said
-    pub beside : answer.beside ≡ said ++ closing name (tally_with no_blocks items)
+    pub beside : answer.beside
+        ≡ said ++ last_lines_with name stranger no_blocks no_strangers items
     pub ending : answer.ending ≡ ending_of (tally_with no_blocks items)
 
 -- and as far as it is begun
-abbrev pub IsBegunAnswer : List ℕ → Names → List Item → Answer → Type 0
-IsBegunAnswer name names items answer =
-    AreBegun name names no_blocks items answer.text answer.beside
+abbrev pub IsBegunAnswer : List ℕ → Names → (List ℕ → Option Stranger) → List Item → Answer
+    → Type 0
+IsBegunAnswer name names stranger items answer =
+    AreBegun name names stranger no_blocks no_strangers items answer.text answer.beside
 
 -- of a listing with these bytes, if they are known: of a block that is too long its first bytes
+abbrev pub AnswersNaming : List ℕ → Names → (List (List ℕ) → List ℕ → Part)
+    → (List ℕ → Option Stranger) → Option (List ℕ) → Answer → Type 0
+AnswersNaming name names part stranger bytes answer =
+    IfSome (blocks_to_come 1 bytes) (λ blocks.
+    IsAnswer name names stranger (items_after part [] blocks) answer)
+
+abbrev pub BeginsNaming : List ℕ → Names → (List (List ℕ) → List ℕ → Part)
+    → (List ℕ → Option Stranger) → Option (List ℕ) → Answer → Type 0
+BeginsNaming name names part stranger bytes answer = IfSome (blocks_to_come 1 bytes) (λ blocks.
+    IsBegunAnswer name names stranger (items_after part [] blocks) answer)
+
+-- where ids without an account aren't looked for
 abbrev pub AnswersListing : List ℕ → Names → (List (List ℕ) → List ℕ → Part) → Option (List ℕ)
     → Answer → Type 0
-AnswersListing name names part bytes answer = IfSome (blocks_to_come 1 bytes) (λ blocks.
-    IsAnswer name names (items_after part [] blocks) answer)
+AnswersListing name names part bytes answer =
+    AnswersNaming name names part none_sought bytes answer
 
 abbrev pub BeginsListing : List ℕ → Names → (List (List ℕ) → List ℕ → Part) → Option (List ℕ)
     → Answer → Type 0
-BeginsListing name names part bytes answer = IfSome (blocks_to_come 1 bytes) (λ blocks.
-    IsBegunAnswer name names (items_after part [] blocks) answer)
+BeginsListing name names part bytes answer =
+    BeginsNaming name names part none_sought bytes answer

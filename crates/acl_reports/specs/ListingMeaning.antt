@@ -7,8 +7,10 @@ use Rattle.acl_cli.specs.Commands.{Meaning}
 use Rattle.acl_cli.specs.Failures.{failed_write}
 use Rattle.acl_cli.specs.declared.failure.Failure.{Failure}
 use Rattle.acl_cli.specs.declared.failure.Failure.TheVariants.{CannotRead}
-use Rattle.acl_reports.specs.Listed.{AnswersListing, BeginsListing, Part}
-use Rattle.acl_reports.specs.Telling.{IsListingFailure}
+use Rattle.acl_reports.specs.Listed.{AnswersNaming, BeginsNaming, Part}
+use Rattle.acl_reports.specs.Reporting.{IsListingFailure}
+use Rattle.acl_reports.specs.Strangers.{none_sought}
+use Rattle.acl_reports.specs.declared.stranger.Stranger.{Stranger}
 
 -- the name of the listing, where `-` is standard input
 abbrev pub listing_in : List Row → Text
@@ -30,12 +32,19 @@ abbrev pub FailsForListing : Text → Failure → Type 0
 FailsForListing name (CannotRead refused reason) = refused.now ≡ name
 FailsForListing name failure = IsListingFailure name failure ⊎ (failure ≡ failed_write)
 
--- a listing of this name that is reported by these names, part by part
-abbrev pub listing_meaning : (Text → Option (List ℕ)) → Option (List ℕ) → Text → Names
-    → (List (List ℕ) → List ℕ → Part) → Meaning
-listing_meaning bytes_of input name names part = record {
-  Answers = AnswersListing name names part (bytes_named bytes_of input name);
-  Begins = BeginsListing name names part (bytes_named bytes_of input name);
+-- a listing of this name that is reported by these names, part by part, and at the end which ids
+-- without an account it names, of a block this first
+abbrev pub naming_meaning : (Text → Option (List ℕ)) → Option (List ℕ) → Text → Names
+    → (List (List ℕ) → List ℕ → Part) → (List ℕ → Option Stranger) → Meaning
+naming_meaning bytes_of input name names part stranger = record {
+  Answers = AnswersNaming name names part stranger (bytes_named bytes_of input name);
+  Begins = BeginsNaming name names part stranger (bytes_named bytes_of input name);
   Fails = FailsForListing name;
   inputs = inputs_of name;
 }
+
+-- where these aren't looked for
+abbrev pub listing_meaning : (Text → Option (List ℕ)) → Option (List ℕ) → Text → Names
+    → (List (List ℕ) → List ℕ → Part) → Meaning
+listing_meaning bytes_of input name names part =
+    naming_meaning bytes_of input name names part none_sought

@@ -5,19 +5,19 @@ use Rattle.std.specs.Option.{option_and_then, option_map_or}
 use Rattle.acl_listings.specs.Block.{path_of}
 use Rattle.acl_listings.specs.Listing.{Block}
 
--- a block has the path in its first line, whether it reads or not
+-- a block has the path in its first line, whether it is malformed or not
 abbrev pub has_path : List ℕ → Block → Bool
 has_path path block = option_map_or (bytes_eq path) (path_of block.text) false
 
--- one of them has it
+-- one of the blocks has it
 abbrev pub is_among : List ℕ → List Block → Bool
 is_among path blocks = list_any (has_path path) blocks
 
--- one of them has the path of this text
+-- one of the blocks has the path of this text
 abbrev pub lists : List Block → List ℕ → Bool
 lists blocks text = option_map_or (λ path. is_among path blocks) (path_of text) false
 
--- the first that has it
+-- the first block that has it
 abbrev pub block_for : List Block → List ℕ → Option Block
 block_for blocks text = option_and_then (λ path. find (has_path path) blocks) (path_of text)
 

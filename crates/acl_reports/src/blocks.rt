@@ -1,6 +1,6 @@
-//! What is reported of a listing, block by block.
+//! Reporting on a listing, block by block.
 ghost use Rattle.std.specs.Prelude.{◌≡◌, ◌+◌, ◌++◌, ◌∷◌, ◌⊎◌, ℕ, IfErr, IfOk, List, [], OnErr};
-ghost use Rattle.std.specs.Prelude.{OnOk, codes, decimal};
+ghost use Rattle.std.specs.Prelude.{OnOk, Option, codes, decimal};
 ghost use Rattle.std.specs.Bool.{MatchBool};
 ghost use Rattle.acl_cli.specs.Commands.{FrontWentOut, NothingWentOut, WentOut};
 ghost use Rattle.acl_cli.specs.ErrorOutput.{line_of_words};
@@ -8,50 +8,70 @@ ghost use Rattle.acl_cli.specs.Failures.{failed_write};
 ghost use Rattle.acl_listings.specs.Cursor.{HandsOut, IsOver};
 ghost use Rattle.acl_names.specs.Shown.{shown};
 ghost use Rattle.acl_people.specs.Host.{names_of_host};
-ghost use Rattle.acl_reports.specs.Listed.{AnswersListing, BeginsListing, IsFaultLine};
-ghost use Rattle.acl_reports.specs.Listed.{Part, fault_words};
-ghost use Rattle.acl_reports.specs.Telling.{IsItemDone, IsItemTold, IsListingFailure};
-ghost use Rattle.acl_reports.specs.Telling.{IsPart, UnlessMemory};
+ghost use Rattle.acl_reports.specs.Listed.{AnswersNaming, BeginsNaming, IsFaultLine};
+ghost use Rattle.acl_reports.specs.Listed.{Part, fault_words, last_lines};
+ghost use Rattle.acl_reports.specs.Reporting.{IsItemDone, IsItemReported, IsListingFailure};
+ghost use Rattle.acl_reports.specs.Reporting.{IsPart, UnlessMemory};
 
 use crate::lines::push_fault_line;
+use crate::next_block::advance;
+use crate::stranger::Stranger;
+use crate::strangers::Strangers;
 use crate::tally::Tally;
-use acl_cli::{Ending, ErrorOutput, Failure, RunFault, Telling, tell_each};
-use acl_listings::{BlockFault, Blocks, FileFault, ReadFault, faulty_line};
+use acl_cli::{Ending, ErrorOutput, Failure, Reporting, RunFault, report_each};
+use acl_listings::{BlockFault, Blocks, FileFault, faulty_line};
 use acl_people::Host;
-use std::alloc::Global;
+use std::alloc::{AllocError, Global};
 use std::io::{Read, Write};
 
-/// What is reported of the blocks of a listing, one after the other.
-pub trait BlockTeller {
+/// Reports on the blocks of a listing, one after the other.
+pub trait BlockReporter {
+    ghost use Rattle.acl_reports.specs.declared.stranger.Stranger.{Stranger};
+
     /// It stands behind blocks with these texts.
     ghost Stands: { Self → List (List ℕ) → Type 0 };
 
     /// What a block with a text results in, behind blocks with others.
     ghost part: { Self → List (List ℕ) → List ℕ → Part };
 
-    /// Appends what is reported of the block with this text, or tells why that isn't known.
+    /// Which id without an account a block with a text names first, if one.
+    ghost stranger: { Self → List ℕ → Option Stranger };
+
+    /// The one of the block that was pushed last.
+    ghost found: { Self → Option Stranger };
+
+    /// Appends what is reported for the block with this text, or reports why that isn't known.
     fn push(&mut self, alloc: Global, text: &[u8], out: &mut Vec<u8>) -> Result<(), FileFault>
         ensures same { UnlessMemory result (part self.new ≡ part self.old) }
         ensures stands { (earlier : List (List ℕ)) → Stands self.old earlier
             → UnlessMemory result (Stands self.new (earlier ++ text.now ∷ [])) }
         ensures part { (earlier : List (List ℕ)) → Stands self.old earlier
-            → IsPart (part self.old earlier text.now) result out.old.items out.new.items };
+            → IsPart (part self.old earlier text.now) result out.old.items out.new.items }
+        ensures strangers { UnlessMemory result (stranger self.new ≡ stranger self.old) }
+        ensures found { (earlier : List (List ℕ)) → Stands self.old earlier
+            → UnlessMemory result (found self.new ≡ stranger self.old text.now) };
+
+    /// The first id without an account that the block names which was pushed last, if that is
+    /// looked for.
+    fn found(&self) -> Option<Stranger>
+        ensures { result ≡ found self.now };
 }
 
-/// What is left to tell of a listing.
+/// The rest of a listing, and its report so far.
 #[derive(Drop)]
-pub(crate) struct Listing<'n, 't, T: BlockTeller + Drop, R: Read + Drop> {
+pub(crate) struct Listing<'n, 't, T: BlockReporter + Drop, R: Read + Drop> {
     name: &'n str,
     host: &'t Host,
-    teller: T,
+    reporter: T,
     blocks: Blocks<R>,
     tally: Tally,
+    strangers: Strangers,
     /// Whether what is said at the end was said.
     closed: bool,
 }
 
-/// Appends the line of a block whose first line has this number, at its line that is at fault,
-/// before which so many stand. Fails if memory runs out, or if that line's number has no room in 64
+/// Appends the line about a faulty block whose first line has this number; the line at fault is
+/// `before` lines further on. Fails if memory runs out, or if that line's number doesn't fit in 64
 /// bits.
 pub fn push_fault_at<'n>(
     name: &'n str,
@@ -74,9 +94,9 @@ pub fn push_fault_at<'n>(
     Ok(())
 }
 
-/// Appends the line of the block with this text, whose first line has this number, and of which
-/// nothing is known: `aclctl: NAME:LINE: WORD: TEXT`, of its line at fault. Fails if memory
-/// runs out, or if that line's number has no room in 64 bits.
+/// Appends the line about a faulty block, `aclctl: NAME:LINE: WORD: TEXT`, with its line at fault.
+/// `line` is the number of its first line. Fails if memory runs out, or if the number doesn't fit
+/// in 64 bits.
 pub fn push_fault<'n>(
     name: &'n str,
     host: &Host,
@@ -94,31 +114,34 @@ pub fn push_fault<'n>(
     push_fault_at(name, line, before, fault, faulty, out)
 }
 
-/// Appends what is reported of the block with this text, or what is said of it, and returns what is
-/// wrong with it, if anything is.
-fn tell_block<'n, T: BlockTeller>(
+/// Appends the report for the block with this text to `out`, or the line about its fault to
+/// `beside`, and returns the fault, if there is one.
+fn report_block<'n, T: BlockReporter>(
     alloc: Global,
     name: &'n str,
     host: &Host,
-    teller: &mut T,
+    reporter: &mut T,
     line: u64,
     text: &[u8],
     out: &mut Vec<u8>,
     beside: &mut Vec<u8>,
 ) -> Result<Option<BlockFault>, Failure<'n>>
-    ensures same { OnOk result (T.part teller.new ≡ T.part teller.old) }
-    ensures stands { (earlier : List (List ℕ)) → T.Stands teller.old earlier
-        → OnOk result (T.Stands teller.new (earlier ++ text.now ∷ [])) }
-    ensures told { (earlier : List (List ℕ)) → T.Stands teller.old earlier
-        → IfOk result (λ fault. IsItemTold name.entry.now (names_of_host host.now)
+    ensures same { OnOk result (T.part reporter.new ≡ T.part reporter.old) }
+    ensures strangers { OnOk result (T.stranger reporter.new ≡ T.stranger reporter.old) }
+    ensures found { (earlier : List (List ℕ)) → T.Stands reporter.old earlier
+        → OnOk result (T.found reporter.new ≡ T.stranger reporter.old text.now) }
+    ensures stands { (earlier : List (List ℕ)) → T.Stands reporter.old earlier
+        → OnOk result (T.Stands reporter.new (earlier ++ text.now ∷ [])) }
+    ensures reported { (earlier : List (List ℕ)) → T.Stands reporter.old earlier
+        → IfOk result (λ fault. IsItemReported name.entry.now (names_of_host host.now)
         (record {
           block = record { line = line; text = text.now };
-          part = T.part teller.old earlier text.now;
+          part = T.part reporter.old earlier text.now;
         }) fault out.old.items out.new.items
         beside.old.items beside.new.items) }
     ensures failed { IfErr result (IsListingFailure name.entry.now) }
 {
-    match teller.push(alloc, text, out) {
+    match reporter.push(alloc, text, out) {
         Ok(()) => Ok(None),
         Err(FileFault::Block(fault)) => {
             push_fault(name, host, line, text, fault, beside)?;
@@ -128,8 +151,8 @@ fn tell_block<'n, T: BlockTeller>(
     }
 }
 
-impl<'n, 't, T: BlockTeller + Drop, R: Read + Drop> Listing<'n, 't, T, R> {
-    /// Takes the next block, if there is one.
+impl<'n, 't, T: BlockReporter + Drop, R: Read + Drop> Listing<'n, 't, T, R> {
+    /// Goes to the next block; false if there is none.
     fn advance(&mut self) -> Result<bool, Failure<'n>>
         ensures name { self.new.name ≡ self.old.name }
         ensures rest { OnOk result (self.new ≡ record self.old { blocks = self.new.blocks }) }
@@ -138,95 +161,118 @@ impl<'n, 't, T: BlockTeller + Drop, R: Read + Drop> Listing<'n, 't, T, R> {
             (IsOver self.old.blocks.coming)) }
         ensures failed { IfErr result (IsListingFailure self.old.name.now) }
     {
-        match self.blocks.advance() {
-            Ok(some) => Ok(some),
-            Err(ReadFault::Read) => Err(Failure::Unread(self.name)),
-            Err(ReadFault::Memory) => Err(Failure::Lacks(RunFault::Memory)),
-        }
+        advance(self.name, &mut self.blocks)
     }
 
-    /// Tells of the block at hand.
-    fn tell_here(
+    /// Reports on the current block.
+    fn report_here(
         &mut self,
         alloc: Global,
         out: &mut Vec<u8>,
         beside: &mut Vec<u8>,
     ) -> Result<(), Failure<'n>>
         ensures name { self.new.name ≡ self.old.name }
-        ensures rest { OnOk result (self.new
-            ≡ record self.old { teller = self.new.teller; tally = self.new.tally }) }
-        ensures same { OnOk result (T.part self.new.teller ≡ T.part self.old.teller) }
-        ensures stands { (earlier : List (List ℕ)) → T.Stands self.old.teller earlier
-            → OnOk result (T.Stands self.new.teller
+        ensures rest { OnOk result (self.new ≡ record self.old {
+          reporter = self.new.reporter;
+          tally = self.new.tally;
+          strangers = self.new.strangers;
+        }) }
+        ensures same { OnOk result (T.part self.new.reporter ≡ T.part self.old.reporter) }
+        ensures same_strangers { OnOk result
+            (T.stranger self.new.reporter ≡ T.stranger self.old.reporter) }
+        ensures stands { (earlier : List (List ℕ)) → T.Stands self.old.reporter earlier
+            → OnOk result (T.Stands self.new.reporter
             (earlier ++ self.old.blocks.block.text ∷ [])) }
-        ensures told { (earlier : List (List ℕ)) → T.Stands self.old.teller earlier
+        ensures reported { (earlier : List (List ℕ)) → T.Stands self.old.reporter earlier
             → OnOk result (IsItemDone self.old.name.now (names_of_host self.old.host.now)
             (record {
               block = self.old.blocks.block;
-              part = T.part self.old.teller earlier self.old.blocks.block.text;
+              part = T.part self.old.reporter earlier self.old.blocks.block.text;
             })
-            self.old.tally self.new.tally out.old.items out.new.items beside.old.items
+            (T.stranger self.old.reporter self.old.blocks.block.text) self.old.tally self.new.tally
+            self.old.strangers self.new.strangers out.old.items out.new.items beside.old.items
             beside.new.items) }
         ensures failed { IfErr result (IsListingFailure self.old.name.now) }
     {
         let line = self.blocks.line();
         let text = self.blocks.text();
-        let fault = tell_block(
+        let fault = report_block(
             alloc,
             self.name,
             self.host,
-            &mut self.teller,
+            &mut self.reporter,
             line,
             text,
             out,
             beside,
         )?;
-        match self.tally.with(text, fault) {
-            Some(tally) => {
+        let found = self.reporter.found();
+        match (
+            self.tally.with(text, fault),
+            self.strangers.with(line, found),
+        ) {
+            (Some(tally), Some(strangers)) => {
                 self.tally = tally;
+                self.strangers = strangers;
                 Ok(())
             }
-            // No listing has so many blocks.
-            None => Err(Failure::Unread(self.name)),
+            // No listing has so many blocks or lines.
+            _ => Err(Failure::Unread(self.name)),
         }
+    }
+
+    /// Appends all that is said at the end.
+    fn push_last(&self, beside: &mut Vec<u8>) -> Result<(), AllocError>
+        ensures { OnOk result (beside.new.items ≡ beside.old.items
+            ++ last_lines self.now.name.now self.now.tally self.now.strangers) }
+    {
+        self.tally.push_closing(self.name, beside)?;
+        self.strangers
+            .push_line(self.name, self.tally.blocks, beside)
     }
 }
 
-impl<'n, 't, T: BlockTeller + Drop, R: Read + Drop> Telling<'n> for Listing<'n, 't, T, R> {
+impl<'n, 't, T: BlockReporter + Drop, R: Read + Drop> Reporting<'n> for Listing<'n, 't, T, R> {
     ghost use Rattle.acl_people.specs.Host.{names_of_host};
-    ghost use Rattle.acl_reports.specs.Telling.{BeginsOf, EndsOf, IsListingFailure};
-    ghost use Rattle.acl_reports.specs.Telling.{TellsOf};
+    ghost use Rattle.acl_reports.specs.Reporting.{BeginsOf, EndsOf, IsListingFailure};
+    ghost use Rattle.acl_reports.specs.Reporting.{ReportsOf};
 
-    ghost Tells = { λ listing. TellsOf (T.Stands listing.teller) (record {
+    ghost Reports = { λ listing. ReportsOf (T.Stands listing.reporter) (record {
       name = listing.name.now;
       names = names_of_host listing.host.now;
-      part = T.part listing.teller;
+      part = T.part listing.reporter;
+      stranger = T.stranger listing.reporter;
       tally = listing.tally;
+      strangers = listing.strangers;
       closed = listing.closed;
       coming = listing.blocks.coming;
     }) };
 
-    ghost Begins = { λ listing. BeginsOf (T.Stands listing.teller) (record {
+    ghost Begins = { λ listing. BeginsOf (T.Stands listing.reporter) (record {
       name = listing.name.now;
       names = names_of_host listing.host.now;
-      part = T.part listing.teller;
+      part = T.part listing.reporter;
+      stranger = T.stranger listing.reporter;
       tally = listing.tally;
+      strangers = listing.strangers;
       closed = listing.closed;
       coming = listing.blocks.coming;
     }) };
 
-    ghost Ends = { λ listing. EndsOf (T.Stands listing.teller) (record {
+    ghost Ends = { λ listing. EndsOf (T.Stands listing.reporter) (record {
       name = listing.name.now;
       names = names_of_host listing.host.now;
-      part = T.part listing.teller;
+      part = T.part listing.reporter;
+      stranger = T.stranger listing.reporter;
       tally = listing.tally;
+      strangers = listing.strangers;
       closed = listing.closed;
       coming = listing.blocks.coming;
     }) };
 
     ghost Fails = { λ listing. IsListingFailure listing.name.now };
 
-    fn tell_next(
+    fn report_next(
         &mut self,
         alloc: Global,
         out: &mut Vec<u8>,
@@ -236,39 +282,39 @@ impl<'n, 't, T: BlockTeller + Drop, R: Read + Drop> Telling<'n> for Listing<'n, 
             return Ok(false);
         }
         if self.advance()? {
-            self.tell_here(alloc, out, beside)?;
+            self.report_here(alloc, out, beside)?;
             return Ok(true);
         }
-        self.tally.push_closing(self.name, beside)?;
+        self.push_last(beside)?;
         self.closed = true;
         Ok(true)
     }
 }
 
-/// Writes what is reported of each block of the listing that the reader reads, in pieces as they
-/// are read, and says what is wrong with others, and at the end how many these are.
-pub(crate) fn tell_listing<'n, 't, T, R, W, E>(
+/// Writes the report on each block of the listing, in pieces as they are read, and to `err` a line
+/// for each faulty block, and at the end how many these are.
+pub(crate) fn report_listing<'n, 't, T, R, W, E>(
     alloc: Global,
     name: &'n str,
     host: &'t Host,
-    teller: T,
+    reporter: T,
     reader: R,
     out: &mut W,
     err: &mut ErrorOutput<E>,
 ) -> Result<Ending, Failure<'n>>
 where
-    T: BlockTeller + Drop,
+    T: BlockReporter + Drop,
     R: Read + Drop,
     W: Write,
     E: Write + Drop,
-    requires { T.Stands teller [] }
-    ensures answered { IfOk result (λ ending. WentOut (AnswersListing name.entry.now
-        (names_of_host host.entry.now) (T.part teller) (R.remaining reader)) ending
-        (W.contents out.old) (W.contents out.new) err.old err.new) }
+    requires { T.Stands reporter [] }
+    ensures answered { IfOk result (λ ending. WentOut (AnswersNaming name.entry.now
+        (names_of_host host.entry.now) (T.part reporter) (T.stranger reporter) (R.remaining reader))
+        ending (W.contents out.old) (W.contents out.new) err.old err.new) }
     ensures cut { OnErr result (NothingWentOut (W.contents out.old) (W.contents out.new) err.old
-        err.new ⊎ FrontWentOut (BeginsListing name.entry.now (names_of_host host.entry.now)
-        (T.part teller) (R.remaining reader)) (W.contents out.old) (W.contents out.new) err.old
-        err.new) }
+        err.new ⊎ FrontWentOut (BeginsNaming name.entry.now (names_of_host host.entry.now)
+        (T.part reporter) (T.stranger reporter) (R.remaining reader)) (W.contents out.old)
+        (W.contents out.new) err.old err.new) }
     ensures failed { IfErr result (λ failure. IsListingFailure name.entry.now failure
         ⊎ (failure ≡ failed_write)) }
 {
@@ -276,16 +322,17 @@ where
     let mut listing = Listing {
         name,
         host,
-        teller,
+        reporter,
         blocks,
         tally: Tally::new(),
+        strangers: Strangers::new(),
         closed: false,
     };
-    tell_each(alloc, &mut listing, out, err)?;
+    report_each(alloc, &mut listing, out, err)?;
     if listing.closed {
         Ok(listing.tally.ending())
     } else {
-        // All is reported only once the end is.
+        // Everything is reported only after the closing lines.
         Err(Failure::Unread(name))
     }
 }

@@ -1,4 +1,4 @@
-//! What decides about access to files of listings.
+//! The list that decides access to a listed file.
 ghost use Rattle.std.specs.Prelude.{◌≡◌, IfOk};
 ghost use Rattle.acl_bridge.specs.Files.{file_with};
 ghost use Rattle.acl_listings.specs.Views.{view_file};
@@ -9,7 +9,8 @@ use acl_listings::{File, Lists};
 use acl_nfs4::Owners;
 use std::alloc::{AllocError, Global};
 
-/// The list that decides access to a file with these. It takes no memory.
+/// The list that decides access to a file with these lists, as Linux evaluates it. It takes no
+/// memory.
 fn deciding_list(alloc: Global, lists: Lists) -> Result<AnyAcl, AllocError>
     ensures { IfOk result (λ list. list ≡ deciding_list lists) }
 {
@@ -19,7 +20,8 @@ fn deciding_list(alloc: Global, lists: Lists) -> Result<AnyAcl, AllocError>
     }
 }
 
-/// A listed file's owners, and the list that decides access to it. It takes no memory.
+/// A listed file's owners, and the list that decides access to it, as Linux evaluates it. It takes
+/// no memory.
 pub fn owners_and_list(alloc: Global, file: File<'_>) -> Result<(Owners, AnyAcl), AllocError>
     ensures { IfOk result (λ deciding. file_with deciding.0 deciding.1
         ≡ file_of (view_file file.entry)) }

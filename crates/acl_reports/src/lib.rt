@@ -1,5 +1,5 @@
-//! What is answered of a listing of real files, block by block, with a line on standard error for
-//! each block of which something isn't known.
+//! Reports on listings of real files, block by block, with a line on standard error for each block
+//! that can't be evaluated.
 #![tactic(auto)]
 
 mod blocks;
@@ -9,11 +9,14 @@ mod lines;
 mod named;
 mod next_block;
 pub mod options;
+mod stranger;
+mod strangers;
 mod tally;
 
-pub use blocks::{BlockTeller, push_fault, push_fault_at};
+pub use blocks::{BlockReporter, push_fault, push_fault_at};
 pub use files::owners_and_list;
 pub use laws::closing_laws;
-pub use named::{INPUT, listing_field, tell_named};
+pub use named::{INPUT, listing_field, report_named};
 pub use next_block::advance;
+pub use stranger::{Stranger, file_stranger};
 pub use tally::Tally;

@@ -47,7 +47,7 @@ fn push_fault_words(fault: BlockFault, out: &mut Vec<u8>) -> Result<(), AllocErr
     out.extend_from_slice(fault.word().as_bytes())
 }
 
-/// Appends where a fault stands: `aclctl: NAME:LINE: `.
+/// Appends the place of a fault: `aclctl: NAME:LINE: `.
 fn push_place(name: &str, line: u64, out: &mut Vec<u8>) -> Result<(), AllocError>
     ensures { OnOk result (out.new.items ≡ out.old.items ++ (codes "aclctl: " ++ name.now
         ++ codes ":" ++ decimal line ++ codes ": ")) }
@@ -58,8 +58,8 @@ fn push_place(name: &str, line: u64, out: &mut Vec<u8>) -> Result<(), AllocError
     out.extend_from_slice(b": ")
 }
 
-/// Appends the line of a fault at this line of the listing of this name: `aclctl: NAME:LINE: WORD:
-/// TEXT`, of which so much is shown.
+/// Appends the line about a fault at this line of the listing of this name: `aclctl: NAME:LINE:
+/// WORD: TEXT`, with the front of the text.
 pub(crate) fn push_fault_line(
     name: &str,
     line: u64,

@@ -2,14 +2,14 @@
 ghost use Rattle.std.specs.Prelude.{IfErr, IfOk};
 ghost use Rattle.std.specs.Bool.{MatchBool};
 ghost use Rattle.acl_listings.specs.Cursor.{HandsOut, IsOver};
-ghost use Rattle.acl_reports.specs.Telling.{IsListingFailure};
+ghost use Rattle.acl_reports.specs.Reporting.{IsListingFailure};
 
 use acl_cli::{Failure, RunFault};
 use acl_listings::{Blocks, ReadFault};
 use std::io::Read;
 
-/// Takes the next block of the listing of this name, and returns whether there was one. Fails with
-/// the name if the listing can't be read on, or if memory runs out.
+/// Goes to the next block of the listing of this name, and returns whether there is one. Fails with
+/// the name if the listing can't be read on, and if memory runs out.
 pub fn advance<'n, R: Read + Drop>(
     name: &'n str,
     blocks: &mut Blocks<R>,

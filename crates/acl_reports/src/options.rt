@@ -2,12 +2,12 @@
 
 use acl_cli::{Given, Word};
 
-/// The word LISTING: the listing that is asked about.
+/// The word LISTING: the listing to evaluate.
 pub const LISTING: Word<'static> = Word {
     given: Given::RequiredWord,
     name: "listing",
     value: "LISTING",
-    help: "What getfacl -R printed, or - for standard input",
+    help: "A file with what getfacl -R printed, or - for standard input",
 };
 
 /// The word BEFORE: the first of two listings.
@@ -15,7 +15,7 @@ pub const BEFORE: Word<'static> = Word {
     given: Given::RequiredWord,
     name: "listing",
     value: "BEFORE",
-    help: "What getfacl -R printed before, or - for standard input",
+    help: "A file with what getfacl -R printed before, or - for standard input",
 };
 
 /// The word AFTER: the second of two listings.
@@ -23,5 +23,5 @@ pub const AFTER: Word<'static> = Word {
     given: Given::RequiredWord,
     name: "after",
     value: "AFTER",
-    help: "What it printed after, or - for standard input",
+    help: "A file with what it printed after, or - for standard input",
 };

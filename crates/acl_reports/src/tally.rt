@@ -1,4 +1,4 @@
-//! How many blocks of a listing there were, and how many weren't answered.
+//! How many blocks a listing has, and how many can't be evaluated.
 ghost use Rattle.std.specs.Prelude.{◌≡◌, ◌++◌, ◌+◌, IfSome, OnOk};
 ghost use Rattle.acl_reports.specs.Listed.{closing, count_line, ending_of, first_guess};
 ghost use Rattle.acl_reports.specs.Listed.{guess_line, is_fault, is_unread};
@@ -9,17 +9,17 @@ use acl_cli::Ending;
 use acl_listings::{BlockFault, Guess};
 use std::alloc::AllocError;
 
-/// How many blocks there were, how many weren't answered, and what the first was taken for.
+/// How many blocks there are, how many can't be evaluated, and the guess for the first.
 #[derive(Clone, Copy)]
 pub struct Tally {
     pub blocks: u64,
     pub faults: u64,
-    /// How many of these are malformed, whatever the way to them.
+    /// How many of these are malformed, whatever their parents are.
     pub unread: u64,
     pub guess: Option<Guess>,
 }
 
-/// 1 if the block isn't answered.
+/// 1 if the block can't be evaluated.
 fn is_fault(fault: Option<BlockFault>) -> u64
     ensures { result ≡ is_fault fault }
 {
@@ -29,7 +29,7 @@ fn is_fault(fault: Option<BlockFault>) -> u64
     }
 }
 
-/// 1 if the block is malformed. One of which only the way is unknown reads all the same.
+/// 1 if the block is malformed. One with an unknown way isn't.
 fn is_unread(fault: Option<BlockFault>) -> u64
     ensures { result ≡ is_unread fault }
 {
@@ -40,7 +40,7 @@ fn is_unread(fault: Option<BlockFault>) -> u64
 }
 
 impl Tally {
-    /// No block was seen.
+    /// No blocks.
     pub fn new() -> Tally
         ensures { result ≡ no_blocks }
     {
@@ -52,8 +52,8 @@ impl Tally {
         }
     }
 
-    /// One block more, with this text, of which this is wrong, if anything is. `None` if there are
-    /// more than can be counted, which no listing has.
+    /// Counts another block, with this text, and this fault if it has one. `None` if there are more
+    /// than can be counted, which no listing has.
     pub fn with(self, text: &[u8], fault: Option<BlockFault>) -> Option<Tally>
         ensures blocks { IfSome result (λ tally. tally.blocks ≡ self.blocks + 1) }
         ensures faults { IfSome result (λ tally. tally.faults ≡ self.faults + is_fault fault) }
@@ -75,7 +75,7 @@ impl Tally {
         })
     }
 
-    /// How the answer ends.
+    /// How the report ends.
     pub fn ending(self) -> Ending
         ensures { result ≡ ending_of self }
     {
@@ -86,7 +86,7 @@ impl Tally {
         }
     }
 
-    /// Appends the line that tells what the listing may be.
+    /// Appends the line that guesses what the listing is.
     fn push_guess(self, name: &str, out: &mut Vec<u8>) -> Result<(), AllocError>
         ensures { OnOk result (out.new.items ≡ out.old.items ++ guess_line name.now self.guess) }
     {
@@ -96,7 +96,7 @@ impl Tally {
         }
     }
 
-    /// Appends the line that counts the files that weren't answered.
+    /// Appends the line that counts the files that can't be evaluated.
     fn push_count(self, name: &str, out: &mut Vec<u8>) -> Result<(), AllocError>
         ensures { OnOk result (out.new.items ≡ out.old.items ++ count_line name.now self) }
     {
@@ -110,7 +110,7 @@ impl Tally {
         Ok(())
     }
 
-    /// Appends what is said at the end of the listing of this name.
+    /// Appends the closing lines of the listing of this name.
     pub fn push_closing(self, name: &str, out: &mut Vec<u8>) -> Result<(), AllocError>
         ensures { OnOk result (out.new.items ≡ out.old.items ++ closing name.now self) }
     {

@@ -59,9 +59,9 @@ module _ {C State I R K : Type 0} (rest : C → List I) (next : State → I → 
 
   module _ (service : State) (sessions : List C) (most : ℕ) (old new : Run C State I R)
       (report : RunReport State (JournalEntry I) R) (begun : HasBegun rest service sessions old)
-      (served_all : AllRounds rest next reply handling.text most old new) (told : IsReported new report) where
+      (served_all : AllRounds rest next reply handling.text most old new) (reported : IsReported new report) where
     journal_is : report.journal.items ≡ rounds most (map rest sessions)
-    journal_is = ap (λ j. j.items) told.journal ∙ served_all.journal ∙ ap (λ front. front ++ rounds most (rests rest old)) begun.journal ∙ ap (λ lists. rounds most lists) begun.rests_are
+    journal_is = ap (λ j. j.items) reported.journal ∙ served_all.journal ∙ ap (λ front. front ++ rounds most (rests rest old)) begun.journal ∙ ap (λ lists. rounds most lists) begun.rests_are
 
     pub are_rounds : AllByRecursion (λ list. length list ≤ most) (map rest sessions) → AreRounds (map rest sessions) report.journal.items
     are_rounds few = (most, few, journal_is)
@@ -70,29 +70,29 @@ module _ {C State I R K : Type 0} (rest : C → List I) (next : State → I → 
     is_report few =
         let wanted = map rest sessions in
         let had = served_all.answered service (began_answered service sessions old begun) in
-        let same : report.journal.items ≡ new.journal.items = ap (λ j. j.items) told.journal in
+        let same : report.journal.items ≡ new.journal.items = ap (λ j. j.items) reported.journal in
         let many : length new.sessions.items ≡ length wanted = served_all.count ∙ begun.count ∙ sym (length-map sessions rest) in
         record {
           known = subst (λ j. AllByRecursion (λ entry. entry.session < length wanted) j) (sym journal_is) (known_rounds (length wanted) most wanted (omega arith));
           served = each_session _ _ wanted refl (λ session none below. ap (λ j. items_from session j) journal_is
               ∙ items_rounds most session wanted ∙ take_all most (get_or wanted session [])
               (few_at most wanted session few) ∙ get_or_default wanted session [] none below);
-          answers = each_session _ _ report.answers.items (ap length told.answers ∙ length-map new.sessions.items (λ progress. progress.answers) ∙ many) (λ session none below.
+          answers = each_session _ _ report.answers.items (ap length reported.answers ∙ length-map new.sessions.items (λ progress. progress.answers) ∙ many) (λ session none below.
               let within : session < length new.sessions.items = omega (arith, below, many) in
               let progress : Progress C R = some_item new.sessions.items session within in
-              ap (λ all. (get_or all session none).items) told.answers
+              ap (λ all. (get_or all session none).items) reported.answers
               ∙ ap (λ (v : Vec R Global). v.items) (get_or-map (λ progress. progress.answers) new.sessions.items session progress none within)
               ∙ (of_session _ _ _ had.sessions session progress within).0
               ∙ ap (λ j. answers_to next reply session service j) (sym same)
               ∙ sym (map-id (answers_to next reply session service report.journal.items)));
-          outputs = each_session _ _ report.outputs.items (ap length told.outputs ∙ length-map new.sessions.items (λ progress. progress.output) ∙ many) (λ session none below.
+          outputs = each_session _ _ report.outputs.items (ap length reported.outputs ∙ length-map new.sessions.items (λ progress. progress.output) ∙ many) (λ session none below.
               let within : session < length new.sessions.items = omega (arith, below, many) in
               let progress : Progress C R = some_item new.sessions.items session within in
-              ap (λ all. (get_or all session none).items) told.outputs
+              ap (λ all. (get_or all session none).items) reported.outputs
               ∙ ap (λ (v : Vec ℕ Global). v.items) (get_or-map (λ progress. progress.output) new.sessions.items session progress none within)
               ∙ (of_session _ _ _ had.sessions session progress within).1
               ∙ ap (λ j. flat_map handling.text (answers_to next reply session service j)) (sym same));
-          state = told.service_is ∙ had.state ∙ ap (λ j. state_after next service j) (sym same);
+          state = reported.service_is ∙ had.state ∙ ap (λ j. state_after next service j) (sym same);
         }
 
 -- what holds of each session's requests holds of their lists

@@ -1,6 +1,6 @@
 //! Runs of sessions over any service: each session's requests go through a broker into one journal,
-//! and what is answered is printed for each session. What a session's requests are, how replies are
-//! printed and which of them are errors two traits say.
+//! and its answers are printed. Two traits define a session's requests, and how replies are printed
+//! and which of them are errors.
 #![tactic(auto)]
 
 mod error_limits;

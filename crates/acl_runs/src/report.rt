@@ -1,6 +1,6 @@
 //! What a run reports.
 
-/// What came of a run of the service `S`. `E` is an entry of the journal, and `K` what is kept of
+/// The result of a run of the service `S`. `E` is an entry of the journal, and `K` what is kept of
 /// an answer. `answers` and `outputs` have a place for each session.
 #[derive(Drop)]
 pub struct RunReport<S, E, K> {
@@ -10,6 +10,6 @@ pub struct RunReport<S, E, K> {
     pub answers: Vec<Vec<K>>,
     /// Each session's answers as they are printed.
     pub outputs: Vec<Vec<u8>>,
-    /// The service that the requests leave.
+    /// The service after all requests.
     pub service: S,
 }

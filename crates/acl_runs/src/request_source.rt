@@ -1,4 +1,4 @@
-//! What a session wants.
+//! The requests of a session.
 use std::alloc::AllocError;
 
 /// The requests of a session, one after the other.
@@ -11,7 +11,7 @@ pub trait RequestSource: Send + Drop {
     /// The requests that are still to come.
     ghost rest: { Self → List Self.Request };
 
-    /// The next request. `None` if none is left. Fails only if memory runs out.
+    /// Takes the next request; `None` if there is none left. Fails only if memory runs out.
     fn next(&mut self) -> Result<Option<Self::Request>, AllocError>
         ensures next { IfOk result (λ next. rest self.old ≡ option_to_list next ++ rest self.new) }
         ensures none { IfOk result (λ next. IfNone next (rest self.old ≡ [])) };

@@ -13,10 +13,10 @@ use state::{begin_all, report_all};
 use std::alloc::{AllocError, Global};
 use turns::take_rounds;
 
-/// Serves all sessions on this thread, a request of each in turn: the first of each, then the
-/// second of each that has one, and so on, in the order of the sessions. There are fewer than 2^32
-/// sessions, each of fewer than 2^32 requests. The only fault is `Memory`; the journal, the answers
-/// and the service are dropped then.
+/// Serves all sessions on this thread in rounds: the first request of each, then the second of each
+/// that has one, and so on, in the order of the sessions. There must be fewer than 2^32 sessions,
+/// each with fewer than 2^32 requests. The only fault is `Memory`; it drops the journal, the
+/// answers and the service.
 pub fn serve_in_rounds<P, S, C>(
     alloc: Global,
     replies: &P,

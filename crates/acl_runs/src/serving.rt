@@ -16,16 +16,16 @@ use std::thread;
 use std::thread::{Scope, Threads};
 use std::time::Clock;
 
-/// Serves each session by a worker in a thread of its own, while this thread takes the requests of
-/// all into one journal and delivers the answers. A worker asks the gate before it submits a
-/// request, and tells it of each answer that it has printed.
+/// Serves each session by a worker in a thread of its own, while this thread takes all requests
+/// into one journal and delivers the answers. A worker calls the gate before it submits a request,
+/// and after each answer that it printed.
 ///
-/// With `max_errors` of K, a session is cancelled at its K-th error: no request of it enters the
-/// journal after that.
+/// With `max_errors` of K, a session is cancelled at its K-th error: after that no request of it
+/// enters the journal.
 ///
-/// There are 1 to `SESSIONS` sessions, each of fewer than 2^32 requests, and an error limit is at
-/// least 1. On a fault all workers are joined, and the journal, the answers and the service are
-/// dropped: `Memory`, `GateStopped` or `ThreadRefused`; if several arise, any one of them.
+/// There must be 1 to `SESSIONS` sessions, each with fewer than 2^32 requests, and an error limit
+/// of at least 1. A fault (`Memory`, `GateStopped` or `ThreadRefused`; any one of several) joins
+/// all workers and drops the journal, the answers and the service.
 pub fn serve_sessions<R, G, P, S, C>(
     rt: &R,
     alloc: Global,

@@ -37,7 +37,7 @@ pub(crate) type Worker<'a, C, P> = PromisedHandle<
     Serves<'a, C, P>,
 >;
 
-/// Starts a worker for each session. If one cannot be started, the others are told to stop.
+/// Starts a worker for each session. If one can't be started, the others are stopped.
 pub(crate) fn start_workers<'s, E, R, G, P, C>(
     scope: &Scope<'s, E>,
     setting: &Setting<'s, R, G, P>,

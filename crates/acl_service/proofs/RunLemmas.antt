@@ -15,7 +15,7 @@ use Rattle.acl_cli.specs.declared.failure.Failure.{Failure}
 use Rattle.acl_cli.specs.declared.failure.Failure.TheVariants.{CannotRead, Field, Lacks, Malformed, Misuse, Refused, Unread, Usage}
 use Rattle.acl_cli.specs.declared.misuse.Misuse.TheVariants.{BadWords, DeleteAndOthers, InputTwice, LettersAndPerms, NoCommand, TooManySessions, TooManyWords}
 use Rattle.acl_cli.specs.declared.run_fault.RunFault.TheVariants.{Memory, NoThread, Output, Stopped}
-use Rattle.acl_cli.proofs.TellingLemmas.{Tells-nothing}
+use Rattle.acl_cli.proofs.ReportingLemmas.{Reports-nothing}
 use Rattle.acl_service.specs.RunMeaning.{AnswersTexts, run_meaning, texts_meaning}
 use Rattle.acl_service.specs.RunTexts.{RunsTexts}
 use Rattle.acl_service.specs.RunWords.{CanRun, HasLimit, sessions_in}
@@ -87,7 +87,7 @@ module _ (setup : List ℕ) (texts : List (Vec ℕ Global)) (journal : Bool) (li
       (unread : (failure : Failure) → IsTextsFailure setup (length texts) failure → status_of failure ≡ 2 → input' ≡ input) where
     pub Comes-ran : RunsTexts setup texts journal limit (Appends out out') → Comes meaning (Ok Answered) out out' err err input input'
     Comes-ran ran = record {
-      answered = record { answer = answer_of ran.printed; is = answers _ (answers_texts _ ran); ends = refl; text = ran.out; beside = Tells-nothing err };
+      answered = record { answer = answer_of ran.printed; is = answers _ (answers_texts _ ran); ends = refl; text = ran.out; beside = Reports-nothing err };
       fails = tt;
       silent = tt;
       cut = tt;
@@ -102,7 +102,7 @@ module _ (setup : List ℕ) (texts : List (Vec ℕ Global)) (journal : Bool) (li
       fails = fails failure is;
       silent = kept_below setup (length texts) failure is (λ other. (silent other, refl));
       cut = kept_or_cut setup (length texts) failure is (λ other. (silent other, refl)) (λ lost.
-          let ran = cut lost in record { answer = answer_of ran.printed; is = begins _ (answers_texts _ ran); text = ran.out; said = 0; beside = Tells-nothing err });
+          let ran = cut lost in record { answer = answer_of ran.printed; is = begins _ (answers_texts _ ran); text = ran.out; said = 0; beside = Reports-nothing err });
       untouched = untouched;
       unread = unread failure is;
     }

@@ -37,7 +37,7 @@ pub served_tree : (served : Served) (journal : List (JournalEntry Numbered)) →
 served_tree served [] = refl
 served_tree served (entry ∷ journal) = served_tree (next_served served entry.item) journal
 
--- what is told of a run explains its sessions
+-- what is reported for a run explains its sessions
 pub explains : (served : Served) (limit : Option ℕ) (texts : List (Vec ℕ Global)) (run : RunReport Served (JournalEntry Numbered) Answer)
     → IsReport next_served reply_served (answer_handling served.directory.now) served limit (requests_of_each served.directory.now texts) run
     → ExplainsSessions served.directory.now served.tree limit texts (report_of run)
@@ -70,8 +70,8 @@ pub explained : (served : Served) (limit : Option ℕ) (texts : List (Vec ℕ Gl
     → wanted ≡ requests_of_each served.directory.now texts → report ≡ report_of run
     → IsReport next_served reply_served (answer_handling served.directory.now) served limit wanted run
     → ExplainsSessions served.directory.now served.tree limit texts report
-explained served limit texts wanted run report wanted_are is_told is =
-    subst (λ report. ExplainsSessions served.directory.now served.tree limit texts report) (sym is_told)
+explained served limit texts wanted run report wanted_are is_reported is =
+    subst (λ report. ExplainsSessions served.directory.now served.tree limit texts report) (sym is_reported)
     (explains served limit texts run (subst (λ wanted. IsReport next_served reply_served (answer_handling served.directory.now) served limit wanted run) wanted_are is))
 
 -- and so does a report that has the run's entries in a list of its own

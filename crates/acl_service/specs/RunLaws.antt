@@ -1,4 +1,4 @@
--- What the exit status of `run` tells of its words.
+-- What the exit status of `run` reports for its words.
 use Rattle.std.specs.Prelude.{◌≡◌, ◌<◌, ◌≤◌, ◌⊎◌, ◌++◌, ℕ, List, Option, codes, decimal, length}
 use Rattle.std.specs.Prelude.{false}
 use Rattle.clap.specs.Words.{Text, matches_of}
@@ -21,8 +21,8 @@ CannotRun names = (length names ≡ 0) ⊎ ((SESSIONS < length names) ⊎ (1 < i
 
 -- if `run` ended with outputs, or a file or the setup was refused, the words and the sessions that
 -- they name were taken; and wrong usage is that of one of them
-abbrev pub StatusesTellTheWords : Type 0
-StatusesTellTheWords = (bytes_of : Text → Option (List ℕ)) (input : Option (List ℕ))
+abbrev pub StatusesReportTheWords : Type 0
+StatusesReportTheWords = (bytes_of : Text → Option (List ℕ)) (input : Option (List ℕ))
     (words : List Text) (status : ℕ) (out out' : Option (List ℕ)) (err err' : ErrorText)
     (stdin stdin' : Unit {0})
     → Ends (of_words run_line false (run_meaning bytes_of input) words) status out out' err err'

@@ -1,4 +1,4 @@
--- What is reported of sessions that worked on one tree.
+-- What is reported for sessions that worked on one tree.
 use Rattle.std.specs.Prelude.{◌≡◌, ℕ, ◌<◌, Bool, true, false, List, [], ◌∷◌, length, map, Option}
 use Rattle.std.specs.List.{AllByRecursion}
 use Rattle.std.specs.declared.vec.Vec.{Vec}

@@ -14,16 +14,16 @@ use acl_lang::MAX_TEXT_LEN;
 use std::alloc::Global;
 use std::io::Read;
 
-/// What sessions work on: the bytes of the setup, and of each session in the order of their names.
+/// The input of a run: the bytes of the setup, and of each session in the order of their names.
 #[derive(Drop)]
 pub struct Texts {
     pub setup: Vec<u8>,
     pub sessions: Vec<Vec<u8>>,
 }
 
-/// Reads the setup of one name and then the sessions of the others, in their order, each of at most
-/// 1,048,576 bytes. There are 1 to 64 sessions. One of them may be that of `input`, of which else
-/// nothing is read.
+/// Reads the setup with one name and then the sessions with the others, in their order, each of at
+/// most 1,048,576 bytes. There must be 1 to 64 sessions. One of them may be `-`, for `input`, which
+/// otherwise isn't read.
 pub fn read_texts<'a, F: OpenFiles, I: Read>(
     alloc: Global,
     files: &F,

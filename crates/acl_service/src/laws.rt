@@ -14,7 +14,7 @@ ghost use Rattle.acl_cli.specs.declared.misuse.Misuse.TheVariants.{TooManySessio
 ghost use Rattle.acl_lang.specs.declared.answer.Answer.{Answer};
 ghost use Rattle.acl_lang.specs.declared.text.Numbered.{Numbered};
 ghost use Rattle.acl_service.specs.Headline.{IsServedBy};
-ghost use Rattle.acl_service.specs.RunLaws.{StatusesTellTheWords, too_many_sessions};
+ghost use Rattle.acl_service.specs.RunLaws.{StatusesReportTheWords, too_many_sessions};
 ghost use Rattle.acl_service.specs.Served.{next_served, reply_served};
 ghost use Rattle.acl_service.specs.Sessions.{ExplainsSessions, IsServedAlone};
 ghost use Rattle.acl_service.specs.declared.served.Served.{Served};
@@ -26,8 +26,8 @@ ghost use Rattle.acl_service.specs.declared.sessions.report.Report.{Report};
 /// answer is the one that the tree gives at the command's place; and the tree is the journal's
 /// result. What the tree becomes and replies is the commands' own meaning.
 ///
-/// And whatever list a command translates, the translation decides alike: for every owner, group
-/// and requester, both grant the same of read, write and execute.
+/// And whatever list a command translates, the translation grants the same: for every owner, group
+/// and requester, both grant the same single permissions to read, write and execute.
 ///
 /// There is nothing to run here: a proof cites the contract.
 pub fn journal_explains_every_answer()
@@ -39,7 +39,7 @@ pub fn journal_explains_every_answer()
     ensures translation { TranslationDecidesAlike }
 {}
 
-/// A run of one session prints what `run_one` writes of its text, and leaves the same tree.
+/// A run of one session prints what `run_one` writes for its text, and leaves the same tree.
 ///
 /// There is nothing to run here: a proof cites the contract.
 pub fn one_session_is_served_as_alone()
@@ -48,12 +48,12 @@ pub fn one_session_is_served_as_alone()
         → IsServedAlone known tree text.items report }
 {}
 
-/// The exit status of `run` tells of its words. At 0 and 1 they were taken and the sessions that
-/// they name can run together; 2 is that of words that aren't taken, or that name no sessions, more
-/// than there may be, or standard input twice. The line of too many says how many there may be.
+/// The exit status of `run` follows from its words. With 0 and 1 the parser took them, and the
+/// sessions that they name can run together; 2 means that it didn't, or that they name no sessions,
+/// too many, or standard input twice. The line about too many says how many there may be.
 ///
 /// There is nothing to run here: a proof cites the contract.
-pub fn run_statuses_tell_the_words()
-    ensures statuses { StatusesTellTheWords }
+pub fn run_statuses_report_the_words()
+    ensures statuses { StatusesReportTheWords }
     ensures number { words_of (Misuse TooManySessions) ≡ Some too_many_sessions }
 {}

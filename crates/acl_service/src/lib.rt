@@ -1,5 +1,5 @@
-//! The service: many sessions on one tree. The sessions of a run,
-//! and the command `run`, over any words, readers and writers.
+//! The service: many sessions on one tree, and the command `run`, over any words, readers and
+//! writers.
 #![tactic(auto)]
 
 mod files;
@@ -15,7 +15,7 @@ pub use acl_cli::{CapFault, ErrorOutput, RunFault, WordsFault, read_capped, word
 pub use acl_runs::{Gate, OpenGate, ServeFault};
 pub use files::{OpenFiles, Texts, read_texts};
 pub use laws::{
-    journal_explains_every_answer, one_session_is_served_as_alone, run_statuses_tell_the_words,
+    journal_explains_every_answer, one_session_is_served_as_alone, run_statuses_report_the_words,
 };
 pub use one::{OneFault, apply_text, run_one};
 pub use run_command::{RunLine, SESSION_WORDS, run, run_texts, session_names};

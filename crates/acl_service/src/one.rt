@@ -18,7 +18,7 @@ use std::io::Write;
 pub enum OneFault {
     /// Memory ran out. Nothing was written.
     Memory,
-    /// The answers couldn't be written. A prefix of them went out.
+    /// The answers couldn't be written. A prefix of them was written.
     Write,
 }
 
@@ -46,7 +46,7 @@ fn answer_lines(
     Ok(())
 }
 
-/// Applies a request, and prints its answer. A node that is asked for is printed where it stands.
+/// Applies a request, and prints its answer. A node that is requested is printed without a copy.
 fn answer_one(
     alloc: Global,
     directory: &Directory,
@@ -72,9 +72,9 @@ fn answer_one(
     render(&answer, directory, printed)
 }
 
-/// Applies the commands of a text to the tree, line by line, and drops their answers. The text has
-/// at most 1,048,576 bytes. It fails only if memory runs out; the tree is then what the commands
-/// before left.
+/// Applies the commands of a text to the tree, line by line, and drops their answers. The text must
+/// have at most 1,048,576 bytes. Fails only if memory runs out; then the commands before have
+/// changed the tree.
 pub fn apply_text(
     alloc: Global,
     directory: &Directory,
@@ -92,10 +92,10 @@ pub fn apply_text(
     Ok(())
 }
 
-/// Applies the commands of a text to the tree, line by line, and answers with the tree that they
-/// leave. Their answers go to `out`: all of them are made first and then written at once. The text
-/// has at most 1,048,576 bytes. On a fault the tree is dropped. `Memory`: nothing was written.
-/// `Write`: a prefix of the answers went out.
+/// Applies the commands of a text to the tree, line by line, and returns the tree that they leave.
+/// Their answers go to `out`, written at once after all of them are made. The text must have at
+/// most 1,048,576 bytes. A fault drops the tree: after `Memory` nothing was written, and after
+/// `Write` a prefix of the answers.
 pub fn run_one<W: Write>(
     alloc: Global,
     directory: &Directory,

@@ -30,22 +30,22 @@ use std::time::Clock;
 use texts::{Options, print_texts};
 
 /// Runs sessions with these texts over the directory and the tree that the setup opens, and writes
-/// what they print to `out`. Of one session that is its output. Of more, each output stands after a
-/// line `session K`, from 0 in the order of the texts. With `journal` there follow the line
-/// `journal` and, for each command in the order in which they took effect, a line `K N`: its
-/// session and its line's number. With `max_errors` of K, a session ends at its K-th answer that is
-/// an error. A single session with neither option runs without threads.
+/// what they print to `out`. A single session's output has no heading; of several, each output
+/// comes after a line `session K`, from 0 in the order of the texts. With `journal` there follow
+/// the line `journal` and, for each command in the order in which they took effect, a line `K N`:
+/// its session and its line's number. With `max_errors` of K, a session ends at its K-th answer
+/// that is an error. A single session with neither option runs without threads.
 ///
-/// Nothing is written before the run has ended. What is wrong goes to `err` in one line; a fault
-/// while writing there changes nothing.
+/// Nothing is written before the run has ended. Failures go to `err` in one line; a fault while
+/// writing there changes nothing.
 ///
-/// It returns the exit status: 0 with the outputs; 1 if the setup is refused; 2 for more than 64
+/// Returns the exit status: 0 with the outputs; 1 if the setup is refused; 2 for more than 64
 /// texts, before the setup is read; and 3 if memory runs out, the gate stops the run, a thread
-/// can't be started or `out` can't be written. At 1 and 2 nothing was written, and at 3 nothing or
-/// a prefix of what the run prints.
+/// can't be started or `out` can't be written. With 1 and 2 nothing was written, and with 3 nothing
+/// or a prefix of what the run prints.
 ///
-/// There is at least one text, each text has at most 1,048,576 bytes, and an error limit is at
-/// least 1.
+/// There must be at least one text, each of at most 1,048,576 bytes, and an error limit of at least
+/// 1.
 pub fn run_texts<R: Threads + Wait + Clock + Sync, G: Gate, W: Write, E: Write + Drop>(
     rt: &R,
     alloc: Global,
@@ -71,25 +71,24 @@ pub fn run_texts<R: Threads + Wait + Clock + Sync, G: Gate, W: Write, E: Write +
     match print_texts(rt, alloc, gate, setup, texts, options, out) {
         Ok(()) => 0,
         Err(failure) => {
-            failure.tell(err);
+            failure.report(err);
             failure.status()
         }
     }
 }
 
-/// Runs the sessions of files. The words are those of the command, its name first: `run --setup
-/// FILE [--journal] [--max-errors K] SESSION..`. A SESSION `-` is what `input` has, and may stand
-/// once; without one, nothing of `input` is read. `files` opens the others: the setup first and
-/// then the sessions in their order, each of at most 1,048,576 bytes, and none after one that can't
-/// be read. All are read before the run begins, which is that of `run_texts`, and what they print
-/// goes to `out`. What is wrong goes to `err`, and so does help; a fault while writing there
-/// changes nothing.
+/// Runs the sessions of files. The words begin with the command's name: `run --setup FILE
+/// [--journal] [--max-errors K] SESSION..`. A SESSION `-`, which may occur once, is `input`;
+/// without one, `input` isn't read. `files` opens the others: the setup first and then the sessions
+/// in their order, each of at most 1,048,576 bytes, and none after one that can't be read. All are
+/// read before the run begins, which is that of `run_texts`, and what they print goes to `out`.
+/// Failures and help go to `err`; a fault while writing there changes nothing.
 ///
-/// It returns the exit status: 0 with the outputs; 1 if a file can't be opened or read or is too
-/// long, or the setup is refused; 2 if the parser of command lines refuses the words, or there are
-/// more than 64 sessions or two of them `-`, before any file is opened; and 3 if memory runs out, a
-/// thread can't be started or `out` can't be written. At 1 and 2 nothing was written, and at 3
-/// nothing or a prefix of what the run prints.
+/// Returns the exit status: 0 with the outputs; 1 if a file can't be opened or read or is too long,
+/// or the setup is refused; 2 if the parser refuses the words, or there are more than 64 sessions
+/// or two of them `-`, before any file is opened; and 3 if memory runs out, a thread can't be
+/// started or `out` can't be written. With 1 and 2 nothing was written, and with 3 nothing or a
+/// prefix of what the run prints.
 pub fn run<R, F, S, I, W, E>(
     rt: &R,
     alloc: Global,
@@ -113,13 +112,13 @@ where
     match answer_words(rt, alloc, files, words, input, out) {
         Ok(ending) => ending.status(),
         Err(failure) => {
-            failure.tell(err);
+            failure.report(err);
             failure.status()
         }
     }
 }
 
-/// Writes what the sessions print that the words name.
+/// Writes what the sessions print whose names the words give.
 fn answer_words<'a, R, F, S, I, W>(
     rt: &R,
     alloc: Global,
@@ -145,7 +144,7 @@ where
     }
 }
 
-/// Writes what the sessions print that the fields name.
+/// Writes what the sessions print whose names the fields give.
 fn answer<'a, R, F, I, W>(
     rt: &R,
     alloc: Global,

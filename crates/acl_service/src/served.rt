@@ -12,9 +12,9 @@ use std::snapshot::Snapshot;
 /// A tree and its directory, with the allocator that its commands take.
 #[derive(Drop)]
 pub struct Served<'a> {
-    /// Where its commands take memory.
+    /// The allocator of its commands.
     pub alloc: Global,
-    /// The users and groups that there are.
+    /// The users and groups.
     pub directory: &'a Directory,
     /// The tree.
     pub tree: Tree,
@@ -53,7 +53,8 @@ impl<'a> Service for Served<'a> {
     }
 }
 
-/// A request of which its line alone is kept. It is small, and a contract still sees the request.
+/// A request, of which only the number of its line is kept: it is small, and a contract still sees
+/// the request.
 #[derive(Drop)]
 pub(crate) struct RequestLine {
     line: u32,
@@ -89,7 +90,7 @@ impl RequestLine {
     }
 }
 
-/// A `Served` whose journal keeps of an entry the session and the line alone: 8 bytes, so that long
+/// A `Served` whose journal keeps only the session and the line of an entry: 8 bytes, so that long
 /// sessions take less memory.
 #[derive(Drop)]
 pub(crate) struct ServedInPrint<'a> {

@@ -30,7 +30,7 @@ use std::time::Clock;
 /// Lets a session for each text work on the tree, all at the same time.
 ///
 /// Each session has a thread of its own, which reads its text line by line, asks the gate before it
-/// submits a request, prints its answers and tells the gate of each. This thread applies the
+/// submits a request, prints its answers and reports the gate of each. This thread applies the
 /// requests of all, one after the other, and delivers the answers. With `max_errors` of K, a
 /// session ends at its K-th answer that is a refusal or a faulty line. A thread that finds nothing
 /// to do yields, and then naps.

@@ -1,4 +1,4 @@
--- Of users and groups that are no directory the first key is told that has the fault.
+-- Of users and groups that are no directory the first key is reported that has the fault.
 use Rattle.std.proofs.Common.{◌≡◌, ◌∙◌, ◌+◌, ◌++◌, ℕ, Bool, true, false, cond, List, [], ◌∷◌, Option, Some, None, ap, ap₂, arith, length, option_map, refl, sym, take}
 use Rattle.std.specs.Prelude.{bytes_eq, nat_lt, not, position, slice_get, suc}
 use Rattle.std.specs.List.{find, list_any, position_from}
@@ -15,10 +15,10 @@ use Rattle.acl_names.specs.declared.limits.TheConstants.{MAX_GROUPS, MAX_USERS}
 use Rattle.acl_setup.specs.PartsKeys.{groups_share_id, groups_share_name, has_name, is_in_too_many, is_misnamed_group}
 use Rattle.acl_setup.specs.PartsKeys.{is_misnamed_user, key_of_groups, key_of_parts, or_key, repeated_from}
 use Rattle.acl_setup.specs.PartsKeys.{repeated_in, unknown_in, users_share_id, users_share_name}
-use Rattle.acl_setup.specs.SetupLaws.{TellsThePart, has_fault, is_repeated, is_so, member_keys, parts_keys, value_keys}
+use Rattle.acl_setup.specs.SetupLaws.{ReportsThePart, has_fault, is_repeated, is_so, member_keys, parts_keys, value_keys}
 use Rattle.acl_setup.specs.declared.key.Key.{Key}
 use Rattle.acl_setup.specs.declared.key.Key.TheVariants as at
-use Rattle.acl_setup.proofs.PartsLemmas.{tells_a_part}
+use Rattle.acl_setup.proofs.PartsLemmas.{reports_a_part}
 
 module _ (test : Key → Bool) where
   -- the first of two that is found
@@ -125,5 +125,5 @@ module _ (known : Known) where
       0 known.users (λ from place group same. ap (is_so (λ user. is_so (λ name. not (has_name known.groups name)) (slice_get user.groups group))) (from_start known.users from place same))
   first_part parts.Memory = refl
 
-pub tells_the_part : TellsThePart
-tells_the_part = record { first = first_part; some = tells_a_part }
+pub reports_the_part : ReportsThePart
+reports_the_part = record { first = first_part; some = reports_a_part }

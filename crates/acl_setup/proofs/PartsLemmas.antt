@@ -1,4 +1,4 @@
--- Users and groups that are no directory have a key at fault, and that is told.
+-- Users and groups that are no directory have a key at fault, and that is reported.
 use Rattle.std.proofs.Common.{◌≡◌, ◌≤◌, ◌∙◌, ◌+◌, ◌++◌, ◌||◌, ℕ, Bool, true, false, cond, List, [], ◌∷◌, Option, Some, None, ap, arith, count_by, length, option_map, refl, subst, sym}
 use Rattle.std.specs.Prelude.{IsSome, bytes_eq, is_none, is_some, nat_eq, nat_lt, not, position}
 use Rattle.std.specs.List.{find, list_any, position_from}
@@ -218,20 +218,20 @@ module _ (users : List KnownUser) (groups : List KnownGroup) where
   unknown_group_some any =
       groups_some (unknown_in groups) (λ names. list_any (λ name. is_none (find (λ group. bytes_eq group.name name) groups)) names) unknown_some 0 users any
 
-pub tells_a_part : (known : Known) (fault : SetupFault) → fault_of known ≡ Some fault → IsSome (key_of_parts known.domain known.users known.groups fault)
-tells_a_part known fault is =
+pub reports_a_part : (known : Known) (fault : SetupFault) → fault_of known ≡ Some fault → IsSome (key_of_parts known.domain known.users known.groups fault)
+reports_a_part known fault is =
     go (is_too_many known) (has_bad_name known) (repeats_name known) (repeats_id known) (has_unknown_group known) refl refl refl refl refl is
   where
-    told : (which : SetupFault) → which ≡ fault → IsSome (key_of_parts known.domain known.users known.groups which) → IsSome (key_of_parts known.domain known.users known.groups fault)
-    told which same some = subst (λ (it : SetupFault). IsSome (key_of_parts known.domain known.users known.groups it)) same some
+    reported : (which : SetupFault) → which ≡ fault → IsSome (key_of_parts known.domain known.users known.groups which) → IsSome (key_of_parts known.domain known.users known.groups fault)
+    reported which same some = subst (λ (it : SetupFault). IsSome (key_of_parts known.domain known.users known.groups it)) same some
 
     go : (many bad name id unknown : Bool) → is_too_many known ≡ many → has_bad_name known ≡ bad → repeats_name known ≡ name → repeats_id known ≡ id
         → has_unknown_group known ≡ unknown
         → cond many (Some TooMany) (cond bad (Some BadName) (cond name (Some RepeatedName) (cond id (Some RepeatedId) (cond unknown (Some UnknownGroup) None)))) ≡ Some fault
         → IsSome (key_of_parts known.domain known.users known.groups fault)
-    go true bad name id unknown m b n i u is = told TooMany (cc) (too_many_some known.users known.groups m)
-    go false true name id unknown m b n i u is = told BadName (cc) (bad_name_some known.users known.groups known.domain b)
-    go false false true id unknown m b n i u is = told RepeatedName (cc) (repeated_name_some known.users known.groups n)
-    go false false false true unknown m b n i u is = told RepeatedId (cc) (repeated_id_some known.users known.groups i)
-    go false false false false true m b n i u is = told UnknownGroup (cc) (unknown_group_some known.users known.groups u)
+    go true bad name id unknown m b n i u is = reported TooMany (cc) (too_many_some known.users known.groups m)
+    go false true name id unknown m b n i u is = reported BadName (cc) (bad_name_some known.users known.groups known.domain b)
+    go false false true id unknown m b n i u is = reported RepeatedName (cc) (repeated_name_some known.users known.groups n)
+    go false false false true unknown m b n i u is = reported RepeatedId (cc) (repeated_id_some known.users known.groups i)
+    go false false false false true m b n i u is = reported UnknownGroup (cc) (unknown_group_some known.users known.groups u)
     go false false false false false m b n i u is = cc

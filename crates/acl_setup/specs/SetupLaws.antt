@@ -1,4 +1,4 @@
--- The laws of what is reported of a setup that is refused: the first key that has the fault.
+-- The laws of what is reported for a setup that is refused: the first key that has the fault.
 use Rattle.std.specs.Prelude.{◌≡◌, ℕ, ◌+◌, Bool, false, is_none, nat_lt, not, List, [], ◌∷◌, ◌++◌}
 use Rattle.std.specs.Prelude.{Option, Some, None, IsSome, Result, Ok, Err, bytes_eq, codes, length}
 use Rattle.std.specs.Prelude.{slice_get, take}
@@ -90,14 +90,14 @@ setup_keys table = at.Domain ∷ at.Umask ∷ at.Root ∷ at.RootOwner ∷ at.Ro
     ∷ at.RootStyle ∷ at.Users ∷ (array_keys user_keys (items_in (codes "user") table)
     ++ at.Groups ∷ array_keys group_keys (items_in (codes "group") table))
 
-abbrev pub key_told : {A : Type 0} → Result A Key → Option Key
-key_told (Ok value) = None
-key_told (Err key) = Some key
+abbrev pub key_reported : {A : Type 0} → Result A Key → Option Key
+key_reported (Ok value) = None
+key_reported (Err key) = Some key
 
 -- Of a table the first of its keys is reported that is at fault, and none if none is.
-abbrev pub TellsTheKey : Type 0
-TellsTheKey = (table : Members)
-    → key_told (setup_in table) ≡ find (is_at_fault table) (setup_keys table)
+abbrev pub ReportsTheKey : Type 0
+ReportsTheKey = (table : Members)
+    → key_reported (setup_in table) ≡ find (is_at_fault table) (setup_keys table)
 
 -- What has a fault of users and groups, in words of these alone.
 
@@ -164,7 +164,7 @@ parts_keys known parts.Memory = []
 
 -- Of users and groups that are no directory the first of these keys is reported that has the fault,
 -- and there is one.
-pub record TellsThePart : Type 0 where
+pub record ReportsThePart : Type 0 where
   pub first : (known : Known) (fault : SetupFault)
       → key_of_parts known.domain known.users known.groups fault
       ≡ find (has_fault known fault) (parts_keys known fault)

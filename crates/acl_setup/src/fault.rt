@@ -1,4 +1,4 @@
-//! Why a setup opens nothing.
+//! Why a setup is refused.
 ghost use Rattle.std.specs.Prelude.{◌≡◌, Some};
 ghost use Rattle.acl_setup.specs.SetupFaults.{parts_fault_words};
 ghost use Rattle.acl_setup.specs.declared.fault.SetupError.TheVariants.{Memory};
@@ -10,15 +10,15 @@ use std::alloc::{AllocError, AllocFailed};
 use std::fmt;
 use thiserror::Error;
 
-/// Why a setup is refused, and where. It is shown by the words that follow `aclctl: setup: ` on the
-/// fault line, which say nothing of the place.
+/// Why a setup is refused, and where. It is displayed as the words after `aclctl: setup: `, which
+/// don't name the place.
 #[derive(Clone, Copy, Debug, PartialEq, Eq, Error)]
 pub enum SetupError {
-    /// The bytes are no TOML document, which shows at this spot.
+    /// The bytes aren't a TOML document; the fault is at this spot.
     NotToml(Spot),
-    /// The key is absent, or its value has another type or isn't one that it may have.
+    /// The key is missing, or its value has another type or is out of its range.
     BadField(Key),
-    /// The users and groups are no directory, and this is the first key that has the fault. It is
+    /// The users and groups can't make a directory; this is the first key with the fault. It is
     /// never `SetupFault::Memory`.
     Parts(SetupFault, Key),
     Memory,
@@ -50,7 +50,7 @@ impl SetupError {
     }
 }
 
-/// The words for users and groups that are no directory.
+/// The words for users and groups that can't make a directory.
 fn parts_words(fault: SetupFault) -> &'static str
     ensures { result.now ≡ parts_fault_words fault }
 {

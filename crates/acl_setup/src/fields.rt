@@ -1,4 +1,4 @@
-//! What the table of a setup says.
+//! Reading the table of a setup.
 ghost use Rattle.toml.specs.View.{table_view};
 ghost use Rattle.acl_setup.specs.Readings.{IsReadingOf};
 ghost use Rattle.acl_setup.specs.Setup.{root_in, setup_in};
@@ -15,7 +15,7 @@ use acl_posix::Mode;
 use std::alloc::Global;
 use toml::{Table, Value};
 
-/// What is said of the root directory.
+/// The root directory of a setup.
 #[derive(Drop)]
 pub(crate) struct Root {
     pub(crate) owner: String,
@@ -24,7 +24,7 @@ pub(crate) struct Root {
     pub(crate) style: Style,
 }
 
-/// What a setup says. Nothing is known yet of whether its users and groups make a directory.
+/// The content of a setup, whose users and groups may still be refused as a directory.
 #[derive(Drop)]
 pub(crate) struct Setup {
     pub(crate) umask: Mode,
@@ -90,9 +90,8 @@ fn read_root(alloc: Global, table: &Table) -> Result<Root, SetupError>
     })
 }
 
-/// What a table says as a setup. `BadField` tells the first key that is absent, or whose value has
-/// another type or isn't one that it may have; `Memory` comes if memory runs out; and no other
-/// fault.
+/// Reads a setup from a table. Fails with `BadField` for the first key that is missing, or whose
+/// value has another type or is out of its range; and with `Memory` if memory runs out.
 #[tactic(auto, unfolding(crate::specs::Setup::setup_in))]
 pub(crate) fn read_table(alloc: Global, table: &Table) -> Result<Setup, SetupError>
     ensures { IsReadingOf setup_shown (setup_in (table_view table.now)) result }

@@ -1,7 +1,7 @@
 //! The keys of a setup.
 
-/// A key that a setup may have. Of a table in an array it has the index, from 0, and of a value in
-/// an array there the index too.
+/// A key of a setup. A table in an array has its index, from 0, and so has a value in an array of
+/// such a table.
 #[derive(Clone, Copy, Debug, PartialEq, Eq)]
 pub enum Key {
     Domain,

@@ -1,12 +1,11 @@
-//! The laws of what is reported of setups that are refused, over the definitions alone.
-ghost use Rattle.acl_setup.specs.SetupLaws.{TellsTheKey, TellsThePart};
+//! Laws of what is reported about refused setups, about the definitions alone.
+ghost use Rattle.acl_setup.specs.SetupLaws.{ReportsTheKey, ReportsThePart};
 
-/// Of a table that says no setup the first key is reported that has no value that it may have
-/// (`keys`): that key is at fault, and no key before it is. Of users and groups that are no
-/// directory the first key is reported that has the fault, and there is one (`parts`). Both are
-/// said in words of the table, and of the users and groups, alone. There is nothing to run here: a
-/// proof cites the contract.
+/// For a table that isn't a setup, the first key without a proper value is reported (`keys`): that
+/// key is at fault, and none before it. For users and groups that can't make a directory, the first
+/// key with the fault is reported, and there is one (`parts`). Both are defined by the table, and
+/// by the users and groups, alone. There is nothing to run here: a proof cites the contract.
 pub fn setup_laws()
-    ensures keys { TellsTheKey }
-    ensures parts { TellsThePart }
+    ensures keys { ReportsTheKey }
+    ensures parts { ReportsThePart }
 {}

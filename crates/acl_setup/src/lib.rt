@@ -1,5 +1,5 @@
-//! The setup: a file in TOML that says whom the service knows, and with which root a tree starts.
-//! Every command that knows names reads it; it stands on no sessions and no threads.
+//! The setup: a TOML file with users and groups, and the root with which a tree starts. It doesn't
+//! depend on sessions and threads.
 #![tactic(auto)]
 
 mod fault;

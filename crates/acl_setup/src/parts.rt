@@ -1,4 +1,4 @@
-//! Where lists of users and groups are wrong, so that they are no directory.
+//! Which key is at fault in users and groups that can't make a directory.
 ghost use Rattle.std.specs.Prelude.{◌≡◌, ℕ, List, Option, bytes_eq, map, position, string_bytes};
 ghost use Rattle.acl_setup.specs.PartsKeys.{has_name, is_in_too_many, is_misnamed_group};
 ghost use Rattle.acl_setup.specs.PartsKeys.{is_misnamed_user, key_of_bad_name, key_of_groups};
@@ -11,7 +11,7 @@ use acl_names::{
     Group, MAX_GROUPS, MAX_GROUPS_OF_USER, MAX_USERS, SetupFault, User, is_domain, is_name,
 };
 
-/// Which of a user's groups is at fault.
+/// Finds which of a user's groups is at fault.
 trait GroupFinder {
     ghost find: { Self → List (List ℕ) → Option ℕ };
 
@@ -19,11 +19,11 @@ trait GroupFinder {
         ensures { result ≡ find self.now (map string_bytes groups.now) };
 }
 
-/// One in which the user is twice.
+/// Finds one that the user's groups have twice.
 #[derive(Drop)]
 struct Repeated;
 
-/// One that isn't among these.
+/// Finds one that isn't among these.
 #[derive(Drop)]
 struct Unknown<'g> {
     groups: &'g [Group],
@@ -124,7 +124,7 @@ fn misnamed_group(groups: &[Group]) -> Option<usize>
     groups.iter().position(|group| is_misnamed_group(group))
 }
 
-/// The domain, or the first user or group, that has no such shape.
+/// The domain, or the first user or group, whose name is malformed.
 fn key_of_bad_name(domain: &str, users: &[User], groups: &[Group]) -> Option<Key>
     ensures { result ≡ key_of_bad_name domain.now users.now groups.now }
 {
@@ -138,7 +138,7 @@ fn key_of_bad_name(domain: &str, users: &[User], groups: &[Group]) -> Option<Key
     Some(Key::GroupName(index))
 }
 
-/// The first user or group that has the name of one before it, or of a user a group twice.
+/// The first user or group with the name of an earlier one, or with a group twice.
 fn key_of_repeated_name(users: &[User], groups: &[Group]) -> Option<Key>
     ensures { result ≡ key_of_repeated_name users.now groups.now }
 {
@@ -151,7 +151,7 @@ fn key_of_repeated_name(users: &[User], groups: &[Group]) -> Option<Key>
     key_of_groups(&Repeated, users)
 }
 
-/// The first user or group that has the id of one before it.
+/// The first user or group with the id of an earlier one.
 fn key_of_repeated_id(users: &[User], groups: &[Group]) -> Option<Key>
     ensures { result ≡ key_of_repeated_id users.now groups.now }
 {
@@ -162,7 +162,7 @@ fn key_of_repeated_id(users: &[User], groups: &[Group]) -> Option<Key>
     Some(Key::GroupGid(index))
 }
 
-/// What has the fault in lists of users and groups that are no directory for it.
+/// The key with this fault, for which users and groups can't make a directory.
 pub(crate) fn key_of_parts(
     domain: &str,
     users: &[User],

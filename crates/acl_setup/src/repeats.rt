@@ -1,4 +1,4 @@
-//! What stands twice in lists of users and groups.
+//! Repeated values in lists of users and groups.
 ghost use Rattle.std.specs.Prelude.{◌≡◌, ◌==◌, Bool, bytes_eq, string_bytes};
 ghost use Rattle.std.specs.List.{list_any};
 ghost use Rattle.acl_setup.specs.PartsKeys.{groups_share_id, groups_share_name, repeated_in};
@@ -6,7 +6,7 @@ ghost use Rattle.acl_setup.specs.PartsKeys.{users_share_id, users_share_name};
 
 use acl_names::{Group, User};
 
-/// What two values may have in common.
+/// Compares two values.
 pub(crate) trait Likeness {
     type Value;
 
@@ -76,7 +76,7 @@ impl Likeness for Texts {
     }
 }
 
-/// Whether the value is as one of those before it.
+/// Whether the value is like one of those before it.
 fn is_among<L: Likeness>(value: &L::Value, before: &[L::Value]) -> bool
     ensures { result ≡ list_any (L.same value.now) before.now }
 {
@@ -88,7 +88,7 @@ fn is_among<L: Likeness>(value: &L::Value, before: &[L::Value]) -> bool
     false
 }
 
-/// The index of the first value that is as one before it.
+/// The index of the first value that is like one before it.
 pub(crate) fn repeated_in<L: Likeness>(values: &[L::Value]) -> Option<usize>
     ensures { result ≡ repeated_in L.same values.now }
 {

@@ -1,4 +1,4 @@
-//! Setups: a file in TOML that says whom the service knows, and with which root a tree starts.
+//! Reading setups.
 ghost use Rattle.std.specs.Prelude.{◌≡◌, ◌↔◌, IfErr, IfOk, IfSome, IsNone, Ok};
 ghost use Rattle.toml.specs.Errors.{IsMemory, IsWithin, span_start};
 ghost use Rattle.toml.specs.View.{table_view};
@@ -19,7 +19,7 @@ use std::alloc::Global;
 use toml::Table;
 use toml::de::Error;
 
-/// Why the users and groups of the setup are no directory, if this is wrong with them.
+/// The error for users and groups of the setup with this fault.
 #[tactic(auto, unfolding(crate::specs::Opened::opened_by))]
 fn parts_error(setup: &Setup, fault: SetupFault) -> SetupError
     requires { IsRefusedFor (setup_shown setup.now).known fault }
@@ -33,8 +33,9 @@ fn parts_error(setup: &Setup, fault: SetupFault) -> SetupError
     }
 }
 
-/// The directory of the users and groups, and a tree of the root, of a setup that the table says.
-/// The table is read again if they are no directory, for they are dropped then.
+/// The directory of the users and groups, and a tree of the root, of the setup in the table. If the
+/// directory is refused, which drops users and groups, the table is read again for the key at
+/// fault.
 #[tactic(auto, unfolding(crate::specs::Opened::opened_by))]
 fn open(alloc: Global, table: &Table, setup: Setup) -> Result<(Directory, Tree), SetupError>
     requires { setup_in (table_view table.now) ≡ Ok (setup_shown setup) }
@@ -63,8 +64,8 @@ fn open(alloc: Global, table: &Table, setup: Setup) -> Result<(Directory, Tree),
     Ok((directory, tree))
 }
 
-/// Where the fault begins for which the bytes are no document, as the toml crate tells it, if
-/// memory hasn't run out.
+/// Where the fault begins for which the bytes aren't a document, as the toml crate reports it;
+/// `None` if memory ran out.
 fn spot_of(bytes: &[u8], error: &Error) -> Option<Spot>
     requires { IsWithin bytes.now error.now }
     ensures spot { IfSome result (IsSpotAt bytes.now (span_start error.now)) }
@@ -76,19 +77,19 @@ fn spot_of(bytes: &[u8], error: &Error) -> Option<Spot>
     }
 }
 
-/// The directory and the tree that a setup opens. The tree has the root alone, and the setup's
-/// umask.
+/// Opens a setup: its users and groups as a directory, and a tree with the root alone and the
+/// setup's umask.
 ///
 /// The bytes are a TOML document with the keys `domain` and `umask`, a table `root` with `owner`,
 /// `group`, `mode` and `style`, and any number of tables `user`, with `name`, `uid` and `groups`,
-/// and `group`, with `name` and `gid`. Other keys play no part. A mode has three octal digits, and
-/// a style is `posix` or `nfs4`.
+/// and `group`, with `name` and `gid`. Other keys are ignored. A mode has three octal digits, and a
+/// style is `posix` or `nfs4`.
 ///
-/// The bytes are refused as `NotToml` if they are no such document; then as `BadField` for the
-/// first key, in this order, that is absent or has a value of another type or out of its range;
-/// then as `Parts` for the first thing that is wrong with the users and groups, as
-/// `Directory::from_parts` tells it, and the first key at which it is; and then as `BadField` if
-/// the root's owner is no user or its group no group. `Memory` comes if memory runs out.
+/// Fails with `NotToml` if the bytes aren't such a document; else with `BadField` for the first
+/// key, in this order, that is missing or has a value of another type or out of its range; else
+/// with `Parts` for the first fault of the users and groups, as `Directory::from_parts` returns it,
+/// and the first key with it; else with `BadField` if the root's owner is no user or its group no
+/// group. Fails with `Memory` if memory runs out.
 pub fn read_setup(alloc: Global, bytes: &[u8]) -> Result<(Directory, Tree), SetupError>
     ensures opened { IfOk result (λ opened. Opens bytes.now opened.0 opened.1) }
     ensures refused { IfErr result (IsRefusedSetup bytes.now) }

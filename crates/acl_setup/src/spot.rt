@@ -1,4 +1,4 @@
-//! Where in a text a byte stands: its line and its column.
+//! The line and column of a byte in a text.
 ghost use Rattle.std.specs.Prelude.{◌≡◌, ◌+◌, ◌<◌, ◌^◌};
 ghost use Rattle.acl_setup.specs.Spots.{goes_on, next_spot, spot_after};
 
@@ -9,14 +9,14 @@ pub struct Spot {
     pub column: usize,
 }
 
-/// Whether the byte goes on with a character that an earlier one begins.
+/// Whether the byte continues a character.
 fn goes_on(byte: u8) -> bool
     ensures { result ≡ goes_on byte }
 {
     128 <= byte && byte < 192
 }
 
-/// The place after a byte.
+/// The spot after a byte.
 fn next_spot(spot: Spot, byte: u8) -> Spot
     requires line { spot.line + 1 < 2 ^ 64 }
     requires column { spot.column + 1 < 2 ^ 64 }
@@ -37,7 +37,7 @@ fn next_spot(spot: Spot, byte: u8) -> Spot
     }
 }
 
-/// The place of what follows these bytes.
+/// The spot after these bytes.
 pub(crate) fn spot_after(bytes: &[u8]) -> Spot
     ensures { result ≡ spot_after bytes.now }
 {

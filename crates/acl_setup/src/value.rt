@@ -17,13 +17,13 @@ use acl_posix::Mode;
 use std::alloc::Global;
 use toml::{Table, Value};
 
-/// What an item of an array may be read as.
+/// A type as which the items of an array are read.
 pub(crate) trait FromValue: Drop {
     ghost use Rattle.acl_setup.specs.declared.key.Key.{Key};
 
     ghost reading: { ℕ → Data → Result Self Key };
 
-    /// What the item with this index is read as, or the first key at which it has no value.
+    /// Reads the item with this index. Fails with the first key without a proper value.
     fn from_value(alloc: Global, index: usize, value: &Value) -> Result<Self, SetupError>
         ensures { IsReadingOf (λ read. read) (reading index (view value.now)) result };
 }
@@ -97,7 +97,7 @@ pub(crate) fn gid_at(table: &Table, key: &str) -> Option<Gid>
     Gid::new(id_at(table, key)?)
 }
 
-/// The mode at a key, which is written as three octal digits.
+/// The mode at a key, written as three octal digits.
 pub(crate) fn mode_at(table: &Table, key: &str) -> Option<Mode>
     ensures { result ≡ mode_at key.now (table_view table.now) }
 {
@@ -117,7 +117,7 @@ pub(crate) fn style_at(table: &Table, key: &str) -> Option<Style>
     }
 }
 
-/// The texts that these values are, which stand at this key of the setup.
+/// These values as texts, which are at this key of the setup.
 fn read_texts(alloc: Global, values: &[Value], at: Key) -> Result<Vec<String>, SetupError>
     ensures { IsReadingOf texts_shown (or_fault at (texts_in (items_view values.now))) result }
 {
@@ -129,7 +129,7 @@ fn read_texts(alloc: Global, values: &[Value], at: Key) -> Result<Vec<String>, S
     Ok(texts)
 }
 
-/// The texts at a key, which is this one of the setup.
+/// The texts at a key, which is `at` in the setup.
 #[tactic(auto, unfolding(crate::specs::SetupTable::texts_at))]
 pub(crate) fn texts_at(
     alloc: Global,
@@ -156,8 +156,7 @@ fn read_items<T: FromValue>(alloc: Global, values: &[Value]) -> Result<Vec<T>, S
     Ok(items)
 }
 
-/// The items of the array with this name, which is at this key of the setup. There are none if it
-/// is absent.
+/// The items of the array with this name, which is at this key of the setup; none if it is missing.
 #[tactic(auto, unfolding(crate::specs::Readings::items_at))]
 pub(crate) fn items_at<T: FromValue>(
     alloc: Global,

@@ -56,7 +56,7 @@ nfs4_keeps acl node =
 mode_keeps : (mode : Classes) (node : Node) → IfOk (with_mode mode node) (KeepsKindAndOwners node)
 mode_keeps mode node = under (KeepsKindAndOwners node) (acl_with_mode node.acl mode) _ (λ _ _. record { kind = refl; owner = refl; group = refl })
 
--- what a step that isn't refused has told
+-- what a step that isn't refused has reported
 found : (fault : TreeFault) (there : Option Node) (node : Node) → or_refused fault there ≡ Ok node → there ≡ Some node
 found fault (Some other) node is = ap (λ outcome. value other outcome) is
   where

@@ -1,4 +1,4 @@
--- What holds of every command, on whatever tree.
+-- What holds for every command, on whatever tree.
 use Rattle.std.specs.Prelude.{◌≡◌, ◌≢◌, ℕ, List, Some}
 use Rattle.acl_names.specs.Directory.{Known}
 use Rattle.acl_tree.specs.Apply.{next, reply}
@@ -20,7 +20,7 @@ IsRefusal (Refused fault) = Unit {0}
 IsRefusal (Fault fault) = Unit {0}
 IsRefusal _ = ⊥
 
--- a command that is refused leaves the tree
+-- a refused command changes nothing
 abbrev pub RefusalsKeepTheTree : Type 0
 RefusalsKeepTheTree =
     (directory : Known) (tree : NodesUnderUmask) (request : Request)
@@ -30,7 +30,7 @@ RefusalsKeepTheTree =
 abbrev pub CommandsKeepTheUmask : Type 0
 CommandsKeepTheUmask = EachCommand (λ tree request after. after.umask ≡ tree.umask)
 
--- no command takes a node away, or changes its kind, its owner or its group
+-- no command removes a node, or changes its kind, its owner or its group
 abbrev pub CommandsKeepNodes : Type 0
 CommandsKeepNodes = EachCommand (λ tree request after. KeepsNodes tree after)
 

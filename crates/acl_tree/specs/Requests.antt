@@ -1,10 +1,10 @@
--- Where a command is.
+-- The path of a command.
 use Rattle.std.specs.Prelude.{◌≡◌, ℕ, true, List, Option, Some, None, IfSome}
 use Rattle.acl_tree.specs.Path.{is_path}
 use Rattle.acl_tree.specs.declared.request.Request.{Request}
 use Rattle.acl_tree.specs.declared.request.Request.TheVariants as request
 
--- the path that a command names; a line that is no command names none
+-- the path that a command names; a line that isn't a command names none
 abbrev pub path_of : Request → Option (List ℕ)
 path_of (request.Get path) = Some path
 path_of (request.SetAccess path acl) = Some path

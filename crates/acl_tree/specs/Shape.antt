@@ -1,4 +1,4 @@
--- What holds of every tree that commands make, and what of its nodes they keep.
+-- What holds for every tree that commands make, and what its nodes keep.
 use Rattle.std.specs.Prelude.{◌≡◌, ℕ, ◌≤◌, true, List, Option, Some, None, IsSomeAnd}
 use Rattle.std.specs.FinMap as map
 use Rattle.acl_nfs4.specs.declared.inheritance.Kind.TheVariants.{File, Dir}
@@ -23,7 +23,7 @@ FilesHaveNoDefault tree = EachNode tree (λ path node. HasNoDefaultOnFile node)
 abbrev pub IsDirectory : Option Node → Type 0
 IsDirectory found = IsSomeAnd found (λ node. node.kind ≡ Dir)
 
--- what each node lies in is there, and is a directory
+-- the parent of each node exists, and is a directory
 abbrev pub NodesLieInDirectories : NodesUnderUmask → Type 0
 NodesLieInDirectories tree = EachNode tree (λ path node. IsDirectory
     (map.get tree.nodes (parent path)))

@@ -1,4 +1,4 @@
--- What holds of every tree that commands make from a new one.
+-- What holds for every tree that commands make from a new one.
 use Rattle.std.specs.Prelude.{◌≡◌, ◌≢◌, ℕ, List, Some, All, fold}
 use Rattle.acl_names.specs.Directory.{Known}
 use Rattle.acl_posix.specs.Mode.{Classes}
@@ -34,7 +34,7 @@ EachMadeTree P = (directory : Known) (tree : NodesUnderUmask) → IsMadeByComman
 abbrev pub FilesNeverHaveADefault : Type 0
 FilesNeverHaveADefault = EachMadeTree FilesHaveNoDefault
 
--- the parent of each path is there, and is a directory
+-- the parent of each path exists, and is a directory
 abbrev pub ParentsAreDirectories : Type 0
 ParentsAreDirectories = EachMadeTree NodesLieInDirectories
 
@@ -42,7 +42,7 @@ ParentsAreDirectories = EachMadeTree NodesLieInDirectories
 abbrev pub TreesAreWithinTheLimit : Type 0
 TreesAreWithinTheLimit = EachMadeTree IsWithinLimit
 
--- nodes are at paths alone, if the paths that the commands name are ones
+-- nodes are only at well-formed paths, if the commands name only such paths
 abbrev pub TreesHavePathsAlone : Type 0
 TreesHavePathsAlone =
     (directory : Known) (tree : NodesUnderUmask) (made : IsMadeByCommands directory tree)
@@ -53,12 +53,12 @@ abbrev pub TheUmaskStays : Type 0
 TheUmaskStays = (directory : Known) (tree : NodesUnderUmask)
     (made : IsMadeByCommands directory tree) → tree.umask ≡ made.umask
 
--- whatever commands come, a node stays, and so do its kind, its owner and its group
+-- whatever commands follow, a node stays, and so do its kind, its owner and its group
 abbrev pub NodesStay : Type 0
 NodesStay = (directory : Known) (tree : NodesUnderUmask) (requests : List Request)
     → KeepsNodes tree (after_all directory tree requests)
 
--- commands at other paths leave what is at this one
+-- commands at other paths don't change the node at this one
 abbrev pub OtherCommandsLeaveANode : Type 0
 OtherCommandsLeaveANode =
     (directory : Known) (tree : NodesUnderUmask) (requests : List Request) (path : List ℕ)

@@ -1,12 +1,12 @@
-//! Values in places of their own on the heap.
+//! Values on the heap.
 ghost use Rattle.std.specs.Prelude.{◌≡◌, IfOk};
 
 use std::alloc::{AllocError, Global};
 use std::marker::Model;
 use std::ops::Deref;
 
-/// A value in a place of its own, so that what holds it stays small: a request and a reply travel
-/// by the hundred thousand, and most hold no list. A contract sees the value alone.
+/// A value on the heap, so that what holds it stays small: requests and replies travel by the
+/// hundred thousand, and most hold no list. A contract sees the value alone.
 #[derive(Debug, Drop)]
 pub struct Boxed<T> {
     inner: Box<T>,
@@ -19,7 +19,7 @@ impl<T> Model for Boxed<T> {
 }
 
 impl<T> Boxed<T> {
-    /// Puts the value in a place of its own. If memory runs out, the value is dropped.
+    /// Puts the value on the heap. If memory runs out, the value is dropped.
     pub fn new(alloc: Global, value: T) -> Result<Boxed<T>, AllocError>
     where
         T: Drop,

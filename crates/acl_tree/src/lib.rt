@@ -1,5 +1,4 @@
-//! A tree of files and directories with access control lists of either style, and the commands on
-//! it.
+//! A tree of files and directories with access control lists of either style, and its commands.
 #![tactic(auto)]
 
 mod boxed;

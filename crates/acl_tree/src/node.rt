@@ -35,7 +35,7 @@ impl Node {
         matches!(self.kind, Kind::Dir)
     }
 
-    /// A copy of it. It fails only if memory runs out.
+    /// Clones it. Fails only if memory runs out.
     pub fn try_clone(&self, alloc: Global) -> Result<Node, AllocError>
         ensures { IfOk result (λ clone. clone ≡ self.now) }
     {
@@ -47,8 +47,7 @@ impl Node {
         })
     }
 
-    /// What is shown of it at this path, with copies of its lists. It fails only if memory runs
-    /// out.
+    /// A view of it at this path, with copies of its lists. Fails only if memory runs out.
     pub fn view(&self, alloc: Global, path: &Path) -> Result<View, AllocError>
         ensures { IfOk result (λ view. view ≡ view_of path.now self.now) }
     {
@@ -72,7 +71,7 @@ impl Node {
         }
     }
 
-    /// Whether its list grants the requester each of the permissions.
+    /// Whether its list grants the requester all of the permissions.
     pub fn may(&self, requester: &Requester, perms: Perms) -> bool
         ensures { result ≡ may self.now requester.now (bits_of perms) }
     {
@@ -80,7 +79,7 @@ impl Node {
         FileAcl { owners, list }.may(requester, perms)
     }
 
-    /// Sets the access list. A default list stays; an NFSv4 list goes.
+    /// Sets the access list. A default list stays; an NFSv4 list is dropped.
     pub(crate) fn set_access(&mut self, alloc: Global, acl: &Acl) -> Result<(), Refusal>
         ensures { ChangesTo (with_access acl.now self.old) self.old result self.new }
     {
@@ -98,7 +97,7 @@ impl Node {
         Ok(())
     }
 
-    /// Sets the default list, or takes it away.
+    /// Sets the default list, or removes it.
     pub(crate) fn set_default(
         &mut self,
         alloc: Global,
@@ -117,7 +116,7 @@ impl Node {
         Ok(())
     }
 
-    /// Sets the NFSv4 list. POSIX lists go.
+    /// Sets the NFSv4 list. POSIX lists are dropped.
     pub(crate) fn set_nfs4(&mut self, alloc: Global, acl: &Acl4) -> Result<(), Refusal>
         ensures { ChangesTo (with_nfs4 acl.now self.old) self.old result self.new }
     {

@@ -15,10 +15,10 @@ use std::alloc::{AllocError, Global};
 /// The access control lists of a node.
 #[derive(Debug, Drop)]
 pub enum NodeAcl {
-    /// The list that access is decided by, and the one that new nodes inherit; in a tree only
+    /// The list that decides access, and the default list that new nodes inherit; in a tree only
     /// directories have the second.
     Posix { access: Acl, default: Option<Acl> },
-    /// The list that access is decided by, and that new nodes inherit from.
+    /// The list that decides access, and whose entries new nodes inherit.
     Nfs4 { acl: Acl4 },
 }
 
@@ -45,7 +45,7 @@ pub(crate) fn try_clone_boxed(
     }
 }
 
-/// The default list of a new node below one with this list: a directory takes it over, a file has
+/// The default list of a new node under this default list: a directory inherits it, a file has
 /// none.
 fn default_below(alloc: Global, kind: Kind, default: &Acl) -> Result<Option<Acl>, AllocError>
     ensures { IfOk result (λ below. below ≡ default_below kind default.now) }
@@ -56,7 +56,7 @@ fn default_below(alloc: Global, kind: Kind, default: &Acl) -> Result<Option<Acl>
     }
 }
 
-/// The mode without what the umask has.
+/// The mode without the umask's bits.
 fn beyond_umask(mode: Mode, umask: Mode) -> Mode
     ensures { result ≡ beyond_umask mode umask }
 {
@@ -68,7 +68,7 @@ fn beyond_umask(mode: Mode, umask: Mode) -> Mode
 }
 
 impl NodeAcl {
-    /// A copy of them. It fails only if memory runs out.
+    /// Clones them. Fails only if memory runs out.
     pub fn try_clone(&self, alloc: Global) -> Result<NodeAcl, AllocError>
         ensures { IfOk result (λ clone. clone ≡ self.now) }
     {
@@ -83,7 +83,7 @@ impl NodeAcl {
         }
     }
 
-    /// The list that access is decided by.
+    /// The list that decides access.
     pub fn deciding_list(&self) -> AnyAclRef<'_>
         ensures { view_list result ≡ deciding_list self.now }
     {
@@ -93,8 +93,8 @@ impl NodeAcl {
         }
     }
 
-    /// The mode that is shown: that of the access list, or what the NFSv4 list grants the owner,
-    /// the group and the others.
+    /// The mode: that of the access list, or what the NFSv4 list grants the owner, the group and
+    /// the others.
     pub fn mode(&self) -> Mode
         ensures { result ≡ mode_shown self.now }
     {

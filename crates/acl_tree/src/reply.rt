@@ -4,7 +4,7 @@ use acl_names::{Gid, Uid};
 use acl_nfs4::{Acl4, Kind};
 use acl_posix::Mode;
 
-/// What is shown of a node: all that there is of it, its path and its mode.
+/// All that a reply shows of a node: the node itself, its path and its mode.
 #[derive(Debug, Drop)]
 pub struct View {
     /// Its path.
@@ -15,7 +15,7 @@ pub struct View {
     pub owner: Uid,
     /// Its group.
     pub group: Gid,
-    /// The mode that its list shows.
+    /// The mode of its list.
     pub mode: Mode,
     /// A copy of its lists.
     pub acl: NodeAcl,
@@ -26,13 +26,13 @@ pub struct View {
 pub enum Reply {
     /// The command was carried out.
     Done,
-    /// The node that was asked for.
+    /// The node that was requested.
     Node(Boxed<View>),
-    /// All that was asked for is granted.
+    /// All that was requested is granted.
     Granted,
-    /// Something that was asked for is denied.
+    /// Something that was requested is denied.
     Denied,
-    /// The translation of the access list of a node that has no default list.
+    /// The translation of the access list of a node without a default list.
     Translated(Boxed<Acl4>),
     /// The translation of the access list, and that of the default list, which only new nodes
     /// inherit.
@@ -42,6 +42,6 @@ pub enum Reply {
     },
     /// The command was refused, and the tree is as it was.
     Refused(TreeFault),
-    /// The line was no command, and the tree is as it was.
+    /// The line isn't a command, and the tree is as it was.
     Fault(LineFault),
 }

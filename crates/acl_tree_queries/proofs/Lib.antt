@@ -2,6 +2,12 @@ pub mod DumpLemmas
 pub mod MadeLemmas
 pub mod DumpRunLemmas
 pub mod ListLemmas
+pub mod StepOrderLemmas
+pub mod PreOrderLemmas
+pub mod ParentLemmas
+pub mod KnownWayLemmas
+pub mod AccountsLemmas
+pub mod AccountsLawLemmas
 pub mod OpenedLemmas
 pub mod TreeMeaningLemmas
 pub mod SetupTreeLemmas

@@ -9,7 +9,7 @@ use Rattle.acl_cli.specs.Failures.{failed_write, status_of}
 use Rattle.acl_cli.specs.Output.{AppendsFront}
 use Rattle.acl_cli.specs.declared.command.Ending.TheVariants.{Answered}
 use Rattle.acl_cli.specs.declared.failure.Failure.{Failure}
-use Rattle.acl_cli.proofs.TellingLemmas.{Tells-nothing}
+use Rattle.acl_cli.proofs.ReportingLemmas.{Reports-nothing}
 use Rattle.acl_tree.specs.Tree.{NodesUnderUmask}
 use Rattle.acl_tree_queries.specs.SetupTree.{IsSetupTree, inputs_in}
 use Rattle.acl_tree_queries.specs.TreeMeaning.{IsAnswerFailure, tree_meaning}
@@ -36,7 +36,7 @@ module _ {I : Type 0} (IsAnswer : Known → NodesUnderUmask → List ℕ → Typ
       is = record { directory = directory; tree = tree; given = given; answers = answers; quiet = refl; whole = refl };
       ends = refl;
       text = went;
-      beside = Tells-nothing err;
+      beside = Reports-nothing err;
     };
     fails = tt;
     silent = tt;
@@ -69,7 +69,7 @@ module _ {I : Type 0} (IsAnswer : Known → NodesUnderUmask → List ℕ → Typ
       is = record { directory = directory; tree = tree; given = given; answers = answers; quiet = refl; whole = refl };
       text = front;
       said = 0;
-      beside = Tells-nothing err;
+      beside = Reports-nothing err;
     });
     untouched = untouched;
     unread = λ two. absurd (omega (arith, two));

@@ -2,7 +2,12 @@ pub mod SetupTree
 pub mod TreeMeaning
 pub mod ListLine
 pub mod ListAnswer
+pub mod ListLaws
 pub mod DumpLine
 pub mod DumpText
 pub mod DumpAnswer
 pub mod DumpLaws
+pub mod AccountsLine
+pub mod AccountsText
+pub mod AccountsAnswer
+pub mod AccountsLaws

@@ -12,21 +12,21 @@ use std::alloc::Global;
 use std::io::{Read, Write};
 use text::push_dump;
 
-/// Prints a tree as a session that makes it again over the same setup. The words are those of the
-/// command, its name first: `dump --setup FILE [SESSION]`. The tree is the one that the setup
-/// opens, or what the session leaves on it. A session `-` is what `input` has; else nothing of
-/// `input` is read. `files` opens the others, the setup first, each of at most 1,048,576 bytes.
+/// Prints a tree as a session that makes it again over the same setup. The words begin with the
+/// command's name: `dump --setup FILE [SESSION]`. The tree is the one that the setup opens, or what
+/// the session leaves on it. A session `-` is `input`, which otherwise isn't read. `files` opens
+/// the others, the setup first, each of at most 1,048,576 bytes.
 ///
-/// To `out` goes first `set / access u::-,g::-,o::-`, so that nothing that is created
-/// inherits; then `create KIND PATH UID 000` for each node but the root, in the order of their
-/// paths; then for each node `set PATH access TEXT`, with `set PATH default TEXT` where it has a
-/// default list, or `set PATH nfs4 TEXT`. Ids are decimal, and lists are in the short text form.
-/// What is wrong goes to `err`; a fault while writing there changes nothing.
+/// `out` gets first `set / access u::-,g::-,o::-`, so that what is created inherits nothing; then
+/// `create KIND PATH UID 000` for each node but the root, sorted by path; then for each node `set
+/// PATH access TEXT`, with `set PATH default TEXT` if it has a default list, or `set PATH nfs4
+/// TEXT`. Ids are decimal, and lists are in the short text form. Failures go to `err`; a fault
+/// while writing there changes nothing.
 ///
 /// The exit status is 0 with the session, and with help; 1 if a file can't be opened or read or is
-/// too long, the setup is refused, or a line would be longer than 1024 bytes; 2 if the parser of
-/// command lines refuses the words; and 3 if memory runs out or `out` can't be written. At 1 and 2
-/// nothing was written, and at 3 nothing or a prefix of the session.
+/// too long, the setup is refused, or a line would be longer than 1024 bytes; 2 if the parser
+/// refuses the words; and 3 if memory runs out or `out` can't be written. With 1 and 2 nothing was
+/// written, and with 3 nothing or a prefix of the session.
 #[derive(Clone, Copy)]
 pub struct Dump;
 

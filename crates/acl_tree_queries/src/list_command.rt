@@ -11,22 +11,22 @@ use std::alloc::Global;
 use std::io::{Read, Write};
 use text::push_tree;
 
-/// Prints a tree as a listing, as `getfacl -Rnp` and `nfs4_getfacl` would. The words are those of
-/// the command, its name first: `list --setup FILE [SESSION]`. The tree is the one that the setup
-/// opens, or what the session leaves on it. A session `-` is what `input` has; else nothing of
-/// `input` is read. `files` opens the others, the setup first, each of at most 1,048,576 bytes.
+/// Prints a tree as a listing, as `getfacl -Rnp` and `nfs4_getfacl` would. The words begin with the
+/// command's name: `list --setup FILE [SESSION]`. The tree is the one that the setup opens, or what
+/// the session leaves on it. A session `-` is `input`, which otherwise isn't read. `files` opens
+/// the others, the setup first, each of at most 1,048,576 bytes.
 ///
-/// To `out` goes a block for each node, with an empty line behind it: `# file: PATH`, `# owner: N`,
-/// `# group: N`, and a line for each entry, `default:` before those of a default list. Ids are
-/// decimal. A directory stands before what is in it, and all of that before anything else. Read as
-/// a listing, by whatever users and groups, the blocks are the nodes. Only an NFSv4 list without
-/// entries can't be said: its block has none, and is refused by whoever reads it. What is wrong
-/// goes to `err`; a fault while writing there changes nothing.
+/// `out` gets a block for each node, with an empty line after it: `# file: PATH`, `# owner: N`, `#
+/// group: N`, and a line for each entry, `default:` before those of a default list. Ids are
+/// decimal. A directory comes before its content, and that before anything else. Read as a listing,
+/// with any users and groups, the blocks are the nodes. The block of an NFSv4 list without entries
+/// has none, and is refused by the commands that read it. Failures go to `err`; a fault while
+/// writing there changes nothing.
 ///
 /// The exit status is 0 with the listing, and with help; 1 if a file can't be opened or read or is
-/// too long, or the setup is refused; 2 if the parser of command lines refuses the words; and 3 if
-/// memory runs out or `out` can't be written. At 1 and 2 nothing was written, and at 3 nothing or a
-/// prefix of the listing.
+/// too long, or the setup is refused; 2 if the parser refuses the words; and 3 if memory runs out
+/// or `out` can't be written. With 1 and 2 nothing was written, and with 3 nothing or a prefix of
+/// the listing.
 #[derive(Clone, Copy)]
 pub struct List;
 

@@ -22,7 +22,7 @@ use clap::ArgMatches;
 use std::alloc::{AllocError, Global};
 use std::io::Read;
 
-/// Who there is, and the tree.
+/// The users and groups, and the tree.
 #[derive(Drop)]
 pub(crate) struct SetupTree {
     pub directory: Directory,
@@ -46,7 +46,7 @@ fn inputs_among(names: Option<&[&str]>) -> usize
     }
 }
 
-/// The texts of the sessions of these names, if there are names.
+/// The texts of the sessions with these names; empty without names.
 fn read_any<'a, F: OpenFiles, I: Read>(
     alloc: Global,
     files: &F,

@@ -63,16 +63,16 @@ module _ (applies : Who → Bool) where
         closes true false s = refl
         closes false m s = refl
 
-        told : (b : Bool) → speaks applies bit ace ≡ b → is_spoken_of bit (ace ∷ rest) ≡ (b || is_spoken_of bit rest)
-        told b is = spoken-cons bit ace rest ∙ ap (λ s. s || is_spoken_of bit rest) is
+        reported : (b : Bool) → speaks applies bit ace ≡ b → is_spoken_of bit (ace ∷ rest) ≡ (b || is_spoken_of bit rest)
+        reported b is = spoken-cons bit ace rest ∙ ap (λ s. s || is_spoken_of bit rest) is
 
         by : (b : Bool) → (decides ace && applies ace.who) ≡ b
-            → (has (cond b (with_word applies before ace) before).left bit && not (is_spoken_of bit rest)) ≡ (has before.left bit && not (is_spoken_of bit (ace ∷ rest)))
+            → (has (cond b (with_word before ace) before).left bit && not (is_spoken_of bit rest)) ≡ (has before.left bit && not (is_spoken_of bit (ace ∷ rest)))
         by true concerned =
             ap (λ o. o && not (is_spoken_of bit rest)) (has-without before.left ace.mask bit)
             ∙ closes (has before.left bit) (has ace.mask bit) (is_spoken_of bit rest)
-            ∙ sym (ap (λ s. has before.left bit && not s) (told (has ace.mask bit) (speaking ace bit concerned)))
-        by false idle = sym (ap (λ s. has before.left bit && not s) (told false (silent ace bit idle)))
+            ∙ sym (ap (λ s. has before.left bit && not s) (reported (has ace.mask bit) (speaking ace bit concerned)))
+        by false idle = sym (ap (λ s. has before.left bit && not s) (reported false (silent ace bit idle)))
 
     one_allowed : found (has (with_ace applies before ace).allowed bit) (has (with_ace applies before ace).left bit) (allows applies bit rest)
         ≡ found (has before.allowed bit) (has before.left bit) (allows applies bit (ace ∷ rest))
@@ -86,14 +86,14 @@ module _ (applies : Who → Bool) where
         word false deny concerned = sym (found-deny applies ace rest before.allowed before.left bit concerned deny)
 
         by : (b : Bool) → (decides ace && applies ace.who) ≡ b
-            → found (has (cond b (with_word applies before ace) before).allowed bit) (has (cond b (with_word applies before ace) before).left bit) (allows applies bit rest) ≡ found (has before.allowed bit) (has before.left bit) (allows applies bit (ace ∷ rest))
+            → found (has (cond b (with_word before ace) before).allowed bit) (has (cond b (with_word before ace) before).left bit) (allows applies bit rest) ≡ found (has before.allowed bit) (has before.left bit) (allows applies bit (ace ∷ rest))
         by true concerned = word (is_allow ace.kind) refl concerned
         by false idle = sym (ap (found (has before.allowed bit) (has before.left bit)) (allows-skip applies ace rest idle bit))
 
   module _ (before : Found) (ace : Nfsace4) where
     pub with_ace-idle : (decides ace && applies ace.who) ≡ false → before ≡ with_ace applies before ace
     unfolding with_ace
-    with_ace-idle idle = sym (ap (λ b. cond b (with_word applies before ace) before) idle)
+    with_ace-idle idle = sym (ap (λ b. cond b (with_word before ace) before) idle)
 
     -- an entry with no bit that is open
     pub with_ace-closed : before.left ∩ ace.mask ≡ 0 → before ≡ with_ace applies before ace
@@ -114,10 +114,10 @@ module _ (applies : Who → Bool) where
         allowed_is true = ap (λ (set : ℕ). before.allowed ∪ set) none ∙ or_zero_r before.allowed
         allowed_is false = refl
 
-        same : with_word applies before ace ≡ before
+        same : with_word before ace ≡ before
         same = λ i. record { allowed = allowed_is (is_allow ace.kind) i; left = left_is i }
 
-        by : (b : Bool) → before ≡ cond b (with_word applies before ace) before
+        by : (b : Bool) → before ≡ cond b (with_word before ace) before
         by true = sym same
         by false = refl
 
@@ -245,8 +245,8 @@ module _ (applies : Who → Bool) (raws : List RawAce) (request : ℕ) where
   pub not_enough_read : (fault : Nfs4Fault) → request < 2 ^ 32 → (front_of raws).fault ≡ Some fault → (IsSettled applies start (front_of raws) → ⊥)
       → deciding applies raws request ≡ Err fault
   unfolding settles places_of
-  not_enough_read fault small told some =
-      ap (λ (fault : Option Nfs4Fault). unless_fault (front_of raws).aces fault (settles applies (front_of raws).aces request)) told
+  not_enough_read fault small reported some =
+      ap (λ (fault : Option Nfs4Fault). unless_fault (front_of raws).aces fault (settles applies (front_of raws).aces request)) reported
       ∙ by (settles applies (front_of raws).aces request) refl
     where
       by : (b : Bool) → settles applies (front_of raws).aces request ≡ b → cond b (Ok (front_of raws).aces) (Err fault) ≡ Err fault

@@ -11,6 +11,8 @@ pub mod XattrAgain
 pub mod RawAgain
 pub mod XdrAgain
 pub mod StepsBack
+pub mod Bytes
+pub mod XdrWritten
 pub mod XattrWritten
 pub mod RawsWritten
 pub mod DecisionLemmas
@@ -28,3 +30,11 @@ pub mod XdrRawsLoop
 pub mod KeptLoop
 pub mod XdrKeptAgain
 pub mod PlacesLoop
+pub mod KeepingLemmas
+pub mod KeepingGrants
+pub mod KeepingExamples
+pub mod ValuesLemmas
+pub mod CompareLemmas
+pub mod ShownLemmas
+pub mod EntryLemmas
+pub mod NamesAgain

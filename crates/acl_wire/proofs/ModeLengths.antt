@@ -5,11 +5,12 @@ use Rattle.std.proofs.lemmas.List.{length-map}
 use Rattle.acl_names.specs.Bits.{without, ◌∪◌}
 use Rattle.acl_nfs4.specs.Ace.{Nfsace4, decides, is_inheritable, unless_empty}
 use Rattle.acl_nfs4.specs.Flags.{inheritance_flags}
-use Rattle.acl_nfs4.specs.ModeChange.{denial_of, denials, denied_to, for_others, for_owner, kept_mask, kept_of_list, kept_of_part, named_whos, names_someone, split, with_denials, without_repeats}
+use Rattle.acl_nfs4.specs.ModeChange.{denial_of, denials, denied_to, for_others, for_owner, kept_mask, kept_of_entry, kept_of_list, kept_of_part, named_whos, names_someone, split, with_denials, without_repeats}
 use Rattle.acl_nfs4.specs.Who.{flags_of_who, same_who}
 use Rattle.acl_nfs4.specs.declared.ace.AceType.TheVariants.{Deny}
 use Rattle.acl_nfs4.specs.declared.who.Who.{Who}
 use Rattle.acl_posix.specs.Mode.{Classes}
+use Rattle.acl_wire.specs.Keeping.{all_perms, left_of_entry, left_of_list, with_mode_keep}
 use Rattle.acl_wire.proofs.CreationLemmas.{few, one}
 
 each-one : {X Y : Type 0} (f : X → List Y) → ((x : X) → length (f x) ≤ 1) → (xs : List X) → length (flat_map f xs) ≤ length xs
@@ -78,3 +79,26 @@ most bits aces mode =
     let with_denied = length-append (front ++ kept) denied in
     let whole = length-append ((front ++ kept) ++ denied) back in
     omega (arith, few mode, none, none_denied, alone, with_kept, with_denied, whole, kept-most mode.group aces, denied-most bits aces)
+
+-- ---- with the named left
+
+left-one : (ace : Nfsace4) → length (left_of_entry ace) ≤ 2
+left-one ace = by (names_someone ace)
+  where
+    by : (b : Bool) → length (cond b (ace ∷ []) (kept_of_entry all_perms ace)) ≤ 2
+    by true = omega arith
+    by false =
+        let parts = each-one (kept_of_part all_perms) (of_part all_perms) (split ace) in
+        omega (arith, parts, of_split ace)
+
+pub most-left : (aces : List Nfsace4) (mode : Classes) → length (with_mode_keep aces mode) ≤ 3 * length aces + 5
+most-left aces mode =
+    let front = for_owner mode.user in
+    let left = left_of_list aces in
+    let back = for_others mode.group mode.other in
+    let none = length-append front [] in
+    let none_denied = length-append (front ++ []) [] in
+    let alone = length-append ((front ++ []) ++ []) back in
+    let with_left = length-append left back in
+    let whole = length-append front (left ++ back) in
+    omega (arith, few mode, none, none_denied, alone, with_left, whole, each-two left_of_entry left-one aces)

@@ -114,8 +114,8 @@ module _ (requester : Identity) (group request : ℕ) (entries : List EntryValue
   looked Linux is_not = by_itself entries (empty ∙ is_not)
 
   module _ (rules : Rules) (owner : ℕ) where
-    abbrev told : Bool → Type 0
-    told result = answer_of rules entries owner group requester request ≡ Ok result
+    abbrev reported : Bool → Type 0
+    reported result = answer_of rules entries owner group requester request ≡ Ok result
 
     owner_has : unwrap_or seen.owner false ≡ tag_has UserObj entries request
     owner_has = ap (λ (o : Option Bool). unwrap_or o false) is.owner ∙ cond_some _ _ owner_there
@@ -124,7 +124,7 @@ module _ (requester : Identity) (group request : ℕ) (entries : List EntryValue
     others_have = ap (λ (o : Option Bool). unwrap_or o false) is.other ∙ cond_some _ _ other_there
 
     -- the owner's entry decides for the owner, by either rules
-    pub by_owner : (requester.uid == owner) ≡ true → told (unwrap_or seen.owner false)
+    pub by_owner : (requester.uid == owner) ≡ true → reported (unwrap_or seen.owner false)
     by_owner asks = elim (cases_Bool (passes rules)) [
       | inl passed ↦ answer-list rules owner ∙ ap Ok (over rules passed ∙ sym owner_has)
       | inr not_passed ↦ answer-list rules owner
@@ -138,14 +138,14 @@ module _ (requester : Identity) (group request : ℕ) (entries : List EntryValue
 
     module _ (not_owner : (requester.uid == owner) ≡ false) where
       -- a list with an empty mask that is passed over
-      pub over-group : passes rules ≡ true → is_in_group requester group ≡ true → told (has_all 0 request)
+      pub over-group : passes rules ≡ true → is_in_group requester group ≡ true → reported (has_all 0 request)
       over-group passed inside = answer-list rules owner ∙ ap Ok (go rules passed)
         where
           go : (r : Rules) → passes r ≡ true → grants (looked_at r entries) owner group requester request ≡ has_all 0 request
           go Draft passed_it = absurd (cc)
           go Linux passed_it = linux-group entries valid (empty ∙ passed_it) owner group requester request not_owner inside
 
-      pub over-other : passes rules ≡ true → is_in_group requester group ≡ false → told (unwrap_or seen.other false)
+      pub over-other : passes rules ≡ true → is_in_group requester group ≡ false → reported (unwrap_or seen.other false)
       over-other passed outside = answer-list rules owner ∙ ap Ok (go rules passed ∙ sym others_have)
         where
           go : (r : Rules) → passes r ≡ true → grants (looked_at r entries) owner group requester request ≡ tag_has Other entries request
@@ -153,24 +153,24 @@ module _ (requester : Identity) (group request : ℕ) (entries : List EntryValue
           go Linux passed_it = linux-other entries valid (empty ∙ passed_it) owner group requester request not_owner outside
 
       module _ (not_passed : passes rules ≡ false) where
-        by_itself-told : (result : Bool) → grants entries owner group requester request ≡ result → told result
-        by_itself-told result same =
+        by_itself-reported : (result : Bool) → grants entries owner group requester request ≡ result → reported result
+        by_itself-reported result same =
             answer-list rules owner ∙ ap Ok (ap (λ (l : List EntryValue). grants l owner group requester request) (looked rules not_passed) ∙ same)
 
-        pub by_user : (has allowed : Bool) → seen.user ≡ Some has → allowed ≡ option_map_or (λ mask. has_all (bits_of mask) request) seen.mask true → told (has && allowed)
+        pub by_user : (has allowed : Bool) → seen.user ≡ Some has → allowed ≡ option_map_or (λ mask. has_all (bits_of mask) request) seen.mask true → reported (has && allowed)
         by_user has allowed there mask =
             let found = applies _ _ has (sym is.user ∙ there) in
-            by_itself-told (has && allowed) (grants-user entries owner group requester request not_owner found.0
+            by_itself-reported (has && allowed) (grants-user entries owner group requester request not_owner found.0
             ∙ ap (λ b. b && mask_allows entries request) found.1 ∙ ap (λ b. has && b) (allows ∙ sym mask))
 
-        pub by_groups : (has allowed : Bool) → seen.user ≡ None → seen.groups ≡ Some has → allowed ≡ option_map_or (λ mask. has_all (bits_of mask) request) seen.mask true → told (has && allowed)
+        pub by_groups : (has allowed : Bool) → seen.user ≡ None → seen.groups ≡ Some has → allowed ≡ option_map_or (λ mask. has_all (bits_of mask) request) seen.mask true → reported (has && allowed)
         by_groups has allowed nobody there mask =
             let no_user = applies_not _ _ (sym is.user ∙ nobody) in
             let found = applies _ _ has (sym is.groups ∙ there) in
-            by_itself-told (has && allowed) (grants-group entries owner group requester request not_owner no_user found.0
+            by_itself-reported (has && allowed) (grants-group entries owner group requester request not_owner no_user found.0
             ∙ ap (λ b. b && mask_allows entries request) found.1 ∙ ap (λ b. has && b) (allows ∙ sym mask))
 
-        pub by_others : seen.user ≡ None → seen.groups ≡ None → told (unwrap_or seen.other false)
+        pub by_others : seen.user ≡ None → seen.groups ≡ None → reported (unwrap_or seen.other false)
         by_others nobody none =
-            by_itself-told (unwrap_or seen.other false)
+            by_itself-reported (unwrap_or seen.other false)
             (grants-other entries owner group requester request not_owner (applies_not _ _ (sym is.user ∙ nobody)) (applies_not _ _ (sym is.groups ∙ none)) ∙ sym others_have)

@@ -1,4 +1,4 @@
--- What was seen of entries in one pass tells what a check asks of them.
+-- What was seen of entries in one pass reports what a check asks of them.
 use Rattle.std.proofs.Common.{◌≡◌, ◌∙◌, ℕ, ◌+◌, ◌<◌, ◌≤◌, Bool, true, false, ◌&&◌, ◌||◌, cond, List, [], ◌∷◌, ◌++◌, Option, Some, None, find, option_map, length, get_or, append_assoc, length-append, refl, sym, ap, subst, arith, inl, inr}
 use Rattle.std.specs.declared.cmp.Ordering.TheVariants.{Less}
 use Rattle.std.specs.List.{All, list_any}

@@ -9,6 +9,7 @@ use Rattle.acl_nfs4.specs.ModeChange.{kept_of_entry, kept_of_list}
 use Rattle.acl_nfs4.specs.declared.inheritance.Kind.{Kind}
 use Rattle.acl_nfs4.proofs.ListLemmas.{drop-here}
 use Rattle.acl_nfs4.proofs.ModeChangeKept.{kept-cons}
+use Rattle.acl_wire.specs.Keeping.{left_of_entry, left_of_list}
 use Rattle.acl_wire.specs.Kept.{kept_ace, kept_aces}
 use Rattle.acl_wire.specs.RawAcesWriting.{raw_of, raws_of}
 use Rattle.acl_wire.specs.declared.raw_ace.RawAce.{RawAce}
@@ -47,6 +48,26 @@ module _ (raws : List RawAce) (aces : List Nfsace4) (same : length raws ≡ leng
       pub kept_too_long : (most : ℕ) → most < length (front ++ raws_of (kept_of_entry group (kept_ace (get_or raws place nothing) ace))) → most < length whole
       kept_too_long most long =
           omega (arith, long, ap length kept_next, length-append (front ++ raws_of (kept_of_entry group (kept_ace (get_or raws place nothing) ace))) (raws_of (kept_of_list group (kept_aces (drop (place + 1) raws) (drop (place + 1) aces)))))
+
+  -- ---- what stays beside a mode that leaves the named
+
+  module _ (front whole : List RawAce) (so_far : front ++ raws_of (left_of_list (kept_aces (drop place raws) (drop place aces))) ≡ whole) where
+    pub left_all : length raws ≤ place → front ≡ whole
+    left_all done = sym (append-nil front) ∙ sym (ap (λ (left : List Nfsace4). front ++ raws_of (left_of_list left)) (over done)) ∙ so_far
+
+    module _ (more : place < length raws) (ace : Nfsace4) (is : ace ≡ get_or aces place ace) where
+      pub left_next : (front ++ raws_of (left_of_entry (kept_ace (get_or raws place nothing) ace))) ++ raws_of (left_of_list (kept_aces (drop (place + 1) raws) (drop (place + 1) aces))) ≡ whole
+      left_next =
+          let one : Nfsace4 = kept_ace (get_or raws place nothing) ace in
+          let others : List Nfsace4 = kept_aces (drop (place + 1) raws) (drop (place + 1) aces) in
+          append_assoc front (raws_of (left_of_entry one)) (raws_of (left_of_list others))
+          ∙ ap (λ (left : List RawAce). front ++ left) (sym (raws-append (left_of_entry one) (left_of_list others)))
+          ∙ ap (λ (left : List Nfsace4). front ++ raws_of (left_of_list left)) (sym (here more ace is))
+          ∙ so_far
+
+      pub left_too_long : (most : ℕ) → most < length (front ++ raws_of (left_of_entry (kept_ace (get_or raws place nothing) ace))) → most < length whole
+      left_too_long most long =
+          omega (arith, long, ap length left_next, length-append (front ++ raws_of (left_of_entry (kept_ace (get_or raws place nothing) ace))) (raws_of (left_of_list (kept_aces (drop (place + 1) raws) (drop (place + 1) aces)))))
 
   -- ---- what is inherited
 

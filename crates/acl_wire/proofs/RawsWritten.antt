@@ -121,6 +121,13 @@ raw_written raw ace is =
     ap raw_of (sym made)
     ∙ ace_written kind.0 who.0 raw (small_flags raw.flags (leb-true _ _ small.0)) (eqb-true _ _ known.0) (kind_read raw.kind kind.0 kind.1) says
 
+-- an entry that has an effect is that entry
+pub has_effect : (ace first : Nfsace4) → effective ace ≡ Ok first → ace ≡ first
+has_effect ace first e = elim (cases_Bool (is_idle ace)) [
+  | inl idle ↦ let wrong = rw idle at e in cc
+  | inr busy ↦ ok_same {F = Nfs4Fault} ace first (rw busy at e)
+]
+
 aces_written : (purpose : Purpose) (raws : List RawAce) (aces : List Nfsace4) → aces_of purpose raws ≡ Ok aces → raws_of aces ≡ map (λ raw. tidied_raw (seen purpose raw)) raws
 unfolding aces_of
 aces_written purpose [] aces is = ap raws_of (sym (ok_same {F = Nfs4Fault} [] aces is))
@@ -132,12 +139,6 @@ aces_written purpose (raw ∷ raws) aces is =
     let made : first.0 ∷ others.0 ≡ aces = ok_same (first.0 ∷ others.0) aces others.2 in
     ap raws_of (sym made)
     ∙ ap₂ (λ (x : RawAce) (xs : List RawAce). x ∷ xs) (ap raw_of (sym same) ∙ raw_written (seen purpose raw) ace.0 ace.1) (aces_written purpose raws others.0 others.1)
-  where
-    has_effect : (ace first : Nfsace4) → effective ace ≡ Ok first → ace ≡ first
-    has_effect ace first e = elim (cases_Bool (is_idle ace)) [
-      | inl idle ↦ let wrong = rw idle at e in cc
-      | inr busy ↦ ok_same {F = Nfs4Fault} ace first (rw busy at e)
-    ]
 
 pub raws_written : RawsWereWritten
 raws_written purpose raws aces is = aces_written purpose raws aces (test_passed (leb (length raws) MAX_ACES) is)

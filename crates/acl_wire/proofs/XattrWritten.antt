@@ -1,45 +1,25 @@
 -- The bytes from which a list's entries are read are those of the entries, but for ids of nobody.
-use Rattle.std.proofs.Common.{◌≡◌, ◌∙◌, ℕ, zero, suc, ◌+◌, ◌<◌, ◌≤◌, ◌/◌, ◌%◌, ◌==◌, Bool, true, false, ltb, leb, cond, List, [], ◌∷◌, ◌++◌, length, get_or, take, drop, Ok, refl, sym, ap, ap₂, subst, arith, inl, inr}
+use Rattle.std.proofs.Common.{◌≡◌, ◌∙◌, ℕ, zero, suc, ◌≤◌, ◌/◌, ◌%◌, ◌==◌, Bool, true, false, ltb, leb, cond, List, [], ◌∷◌, ◌++◌, length, take, drop, Ok, refl, sym, ap, ap₂, subst, arith, inl, inr}
 use Rattle.std.specs.Int.{w16, w32, from_le_bytes, to_le_bytes}
 use Rattle.std.specs.List.{flat_map}
 use Rattle.std.proofs.lemmas.Bool.{cases_Bool, cases_eq, cases_lt, eqb-true, le-ltb, lt-ltb, ne_eqb}
-use Rattle.std.proofs.lemmas.List.{get_or-take, get_or-drop, length-take, length-drop}
+use Rattle.std.proofs.lemmas.List.{length-take, length-drop}
 use Rattle.std.proofs.lemmas.List.Concat.{flat_map-cons}
 use Rattle.std.proofs.lemmas.Nat.{le_bytes_2, le_bytes_4}
-use Rattle.std.proofs.Math.ListN.{get_or-eq_default}
 use Rattle.std.proofs.Math.Seq.{take-add}
 use Rattle.acl_names.proofs.StepLemmas.{bind_ok}
 use Rattle.acl_posix.specs.Entry.{EntryValue}
 use Rattle.acl_posix.specs.declared.limits.TheConstants.{MAX_ENTRIES}
 use Rattle.acl_posix.specs.declared.entry.Tag.{Tag}
 use Rattle.acl_posix.specs.declared.entry.Tag.TheVariants.{UserObj, User, GroupObj, Group, Mask, Other}
-use Rattle.acl_wire.specs.Written.{AreBytes, XattrsWereWritten, names_by_id, tidied_entries, tidied_entry}
+use Rattle.acl_wire.specs.Written.{XattrsWereWritten, names_by_id, tidied_entries, tidied_entry}
 use Rattle.acl_wire.specs.Xattr.{entry_bytes, id_number, tag_number, undefined_id, version}
 use Rattle.acl_wire.specs.XattrReading.{body_of, entries_at, entries_of, entry_of, fields_at, number_at, tag_of}
 use Rattle.acl_wire.specs.declared.xattr_reading.Fields.{Fields}
 use Rattle.acl_wire.specs.declared.fault.PosixFault.{PosixFault}
 use Rattle.acl_wire.specs.declared.fault.PosixFault.TheVariants as faults
+use Rattle.acl_wire.proofs.Bytes.{Bounded, bounded, bounded-drop, bounded-take}
 use Rattle.acl_wire.proofs.StepsBack.{answer, ok_same, test_held}
-
--- each element is a byte, and so is what stands behind the end
-
-abbrev Bounded : List ℕ → Type 0
-Bounded bytes = (i : ℕ) → get_or bytes i 0 < 256
-
-bounded : (bytes : List ℕ) → AreBytes bytes → Bounded bytes
-bounded bytes are i = elim (cases_lt i (length bytes)) [
-  | inl inside ↦ are i 0 inside
-  | inr outside ↦ rw (get_or-eq_default bytes 0 {n = i} outside) (omega arith)
-]
-
-bounded-take : (n : ℕ) (bytes : List ℕ) → Bounded bytes → Bounded (take n bytes)
-bounded-take n bytes are i = elim (cases_lt i n) [
-  | inl inside ↦ rw (get_or-take n bytes i 0 inside) (are i)
-  | inr outside ↦ rw (get_or-eq_default (take n bytes) 0 {n = i} (omega (arith, outside, length-take n bytes))) (omega arith)
-]
-
-bounded-drop : (n : ℕ) (bytes : List ℕ) → Bounded bytes → Bounded (drop n bytes)
-bounded-drop n bytes are i = rw (get_or-drop n bytes i 0) (are (n + i))
 
 -- what a tag says of its number and its id
 

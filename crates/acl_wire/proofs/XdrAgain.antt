@@ -1,5 +1,5 @@
 -- A list in XDR is read as that list.
-use Rattle.std.proofs.Common.{◌≡◌, ◌∙◌, ℕ, ◌-◌, ◌^◌, ◌<◌, ◌≤◌, true, false, ltb, leb, List, [], ◌∷◌, ◌++◌, length, replicate, decimal, codes, take, drop, All, Option, Some, None, Ok, refl, sym, ap, subst, arith, append_assoc, inl, inr}
+use Rattle.std.proofs.Common.{◌≡◌, ◌∙◌, ℕ, ◌-◌, ◌^◌, ◌<◌, ◌≤◌, true, false, ltb, leb, List, [], ◌∷◌, ◌++◌, length, replicate, decimal, codes, take, drop, All, Some, None, Ok, refl, sym, ap, subst, arith, append_assoc, inl, inr}
 use Rattle.std.specs.Int.{w32, to_be_bytes}
 use Rattle.std.specs.List.{flat_map, AllByRecursion}
 use Rattle.std.specs.Str.{bytes_eq}
@@ -10,8 +10,8 @@ use Rattle.std.proofs.lemmas.List.Concat.{flat_map-cons}
 use Rattle.std.proofs.lemmas.List.Elements.{recursion_from_All}
 use Rattle.std.proofs.lemmas.Nat.{and_le_r, from_be_bytes-to_be_bytes_4}
 use Rattle.std.proofs.lemmas.Slice.Eq.{bytes_eq-Decides}
-use Rattle.acl_names.proofs.IdTexts.{written_decimal}
-use Rattle.acl_names.specs.Ids.{Number, decimal_value, has_name_shape, number_or_name}
+use Rattle.acl_names.proofs.IdTexts.{decimal_read}
+use Rattle.acl_names.specs.Ids.{decimal_value}
 use Rattle.acl_names.specs.declared.limits.TheConstants.{MAX_ID}
 use Rattle.acl_nfs4.specs.Ace.{Nfsace4}
 use Rattle.acl_nfs4.specs.Flags.{all_flags}
@@ -33,7 +33,7 @@ number_again n rest lt =
     let long : ltb (length (to_be_bytes w32 n ++ rest)) 4 ≡ false = le-ltb _ _ (omega arith) in
     rw (long, from_be_bytes-to_be_bytes_4 n lt) refl
 
-text_again : (text rest : List ℕ) → length text < 2 ^ 32 → text_at (text_bytes text ++ rest) ≡ Ok (text, rest)
+pub text_again : (text rest : List ℕ) → length text < 2 ^ 32 → text_at (text_bytes text ++ rest) ≡ Ok (text, rest)
 unfolding text_at
 text_again text rest lt =
     let n = length text in
@@ -54,34 +54,26 @@ not_special id word small is none = elim (cases_Bool (bytes_eq (decimal id) word
   | inr other ↦ other
 ]
 
--- what writes an id as a number has it as its value
-value_is : (found : Option ℕ) (text : List ℕ) (id : ℕ) → number_or_name found text ≡ Some (Number id) → found ≡ Some id
-value_is (Some value) text id is = cc
-value_is None text id is = elim (cases_Bool (has_name_shape text)) [
-  | inl shaped ↦ let wrong = rw shaped at is in cc
-  | inr other ↦ let wrong = rw other at is in cc
-]
-
 id_again : (id : ℕ) → id ≤ MAX_ID → who_in (decimal id) ≡ Ok (0, id)
 id_again id small =
-    let is : decimal_value (decimal id) ≡ Some id = value_is (decimal_value (decimal id)) (decimal id) id (written_decimal id small) in
+    let is : decimal_value (decimal id) ≡ Some id = decimal_read id small in
     rw (not_special id (codes "OWNER@") small is refl, not_special id (codes "GROUP@") small is refl, not_special id (codes "EVERYONE@") small is refl, is) refl
 
-who_again : (who : Who) → HasId who → who_in (who_text who) ≡ Ok (special_number who, id_of who)
+pub who_again : (who : Who) → HasId who → who_in (who_text who) ≡ Ok (special_number who, id_of who)
 who_again Owner has = refl
 who_again Group has = refl
 who_again Everyone has = refl
 who_again (User uid) has = id_again uid has
 who_again (NamedGroup gid) has = id_again gid has
 
-short_text : (who : Who) → HasId who → length (who_text who) < 2 ^ 32
+pub short_text : (who : Who) → HasId who → length (who_text who) < 2 ^ 32
 short_text Owner has = omega arith
 short_text Group has = omega arith
 short_text Everyone has = omega arith
 short_text (User uid) has = omega (arith, length-decimal-le 10 uid (omega arith) (omega (arith, has)) (omega (arith, has)))
 short_text (NamedGroup gid) has = omega (arith, length-decimal-le 10 gid (omega arith) (omega (arith, has)) (omega (arith, has)))
 
-kind_short : (kind : AceType) → kind_number kind < 2 ^ 32
+pub kind_short : (kind : AceType) → kind_number kind < 2 ^ 32
 kind_short Allow = omega arith
 kind_short Deny = omega arith
 kind_short Audit = omega arith

@@ -34,7 +34,7 @@ use Rattle.acl_wire.proofs.StepsBack.{answer, ok_same, test_held}
 use Rattle.acl_wire.proofs.XdrAgain.{entry_again, number_again}
 
 -- what is written of an entry are its numbers, less what plays no part
-kept_written : (raw : RawAce) (ace : Nfsace4) → value_of raw ≡ Ok ace → raw_of (kept_ace raw ace) ≡ tidied_raw raw
+pub kept_written : (raw : RawAce) (ace : Nfsace4) → value_of raw ≡ Ok ace → raw_of (kept_ace raw ace) ≡ tidied_raw raw
 kept_written raw ace is = by (raw.special == 0) refl (raw_written (seen Decide raw) ace is)
   where
     by : (b : Bool) → (raw.special == 0) ≡ b → raw_of ace ≡ tidied_raw (seen Decide raw) → raw_of (kept_ace raw ace) ≡ tidied_raw raw
@@ -69,7 +69,7 @@ id_read special is_group id who is = elim (cases_eq special 0) [
     named false e = let held = if_then (leb id MAX_ID) faults.Id (User id) who e in subst HasId held.1 (leb-true id MAX_ID held.0)
 
 -- the numbers of an entry, less what plays no part, are an entry, and have nothing less
-twice : (raw : RawAce) → tidied_raw (tidied_raw raw) ≡ tidied_raw raw
+pub twice : (raw : RawAce) → tidied_raw (tidied_raw raw) ≡ tidied_raw raw
 twice raw = by (raw.special == 0) refl
   where
     cleared : without (without raw.flags 64) 64 ≡ without raw.flags 64
@@ -129,12 +129,12 @@ tidy raw ace false other is kind kind_is small known who is_group who_is =
     (ace_of kind flags who (raw.mask ∩ but_retention), rw (other, kind_is, still, known, its_who) refl)
 
 -- what the numbers of an entry that was read say
-record Read (raw : RawAce) (ace : Nfsace4) : Type 0 where
+pub record Read (raw : RawAce) (ace : Nfsace4) : Type 0 where
   pub id : HasId ace.who
   pub its : Nfsace4
   pub tidied : value_of (tidied_raw raw) ≡ Ok its
 
-is_read : (raw : RawAce) (ace : Nfsace4) → value_of raw ≡ Ok ace → Read raw ace
+pub is_read : (raw : RawAce) (ace : Nfsace4) → value_of raw ≡ Ok ace → Read raw ace
 unfolding ace_of_raw
 is_read raw ace is =
     let kind = bind_ok (kind_of raw.kind) _ ace is in
@@ -151,7 +151,7 @@ is_read raw ace is =
       tidied = tidied.1;
     }
 
-tidied_flags_le : (raw : RawAce) → (tidied_raw raw).flags ≤ raw.flags
+pub tidied_flags_le : (raw : RawAce) → (tidied_raw raw).flags ≤ raw.flags
 tidied_flags_le raw = by (raw.special == 0) refl
   where
     by : (b : Bool) → (raw.special == 0) ≡ b → (tidied_raw raw).flags ≤ raw.flags

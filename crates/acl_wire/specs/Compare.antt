@@ -1,6 +1,6 @@
 -- Lists compared for everybody.
 use Rattle.std.specs.Prelude.{◌≡◌, ◌≢◌, ◌&&◌, not, ℕ, List, [], ◌∷◌, ◌++◌, Option, Some, None}
-use Rattle.std.specs.Prelude.{Result, Ok, Err, nat_le, nat_lt, if◌then◌else◌}
+use Rattle.std.specs.Prelude.{Result, Ok, Err, length, nat_le, nat_lt, if◌then◌else◌}
 use Rattle.acl_bridge.specs.Comparison.{GrantAlikeToAll, grants_at}
 use Rattle.acl_names.specs.Bits.{has, ◌∪◌}
 use Rattle.acl_names.specs.Requester.{Identity}
@@ -10,20 +10,18 @@ use Rattle.acl_nfs4.specs.Ace.{Nfsace4}
 use Rattle.acl_nfs4.specs.Comparison.{DecideAlike, Decider, decided_at}
 use Rattle.acl_nfs4.specs.declared.owners.Owners.{Owners}
 use Rattle.acl_posix.specs.Entry.{EntryValue}
+use Rattle.acl_wire.specs.Decision.{values_of}
 use Rattle.acl_wire.specs.Posix.{acl_of}
-use Rattle.acl_wire.specs.RawAces.{is_request, list_of}
+use Rattle.acl_wire.specs.RawAces.{is_request}
 use Rattle.acl_wire.specs.declared.compare.RawAsker.{RawAsker}
 use Rattle.acl_wire.specs.declared.compare.RawDifference.{RawDifference}
 use Rattle.acl_wire.specs.declared.compare.RawUnlike.{RawUnlike}
-use Rattle.acl_wire.specs.declared.fault.Nfs4Error.{Nfs4Error}
-use Rattle.acl_wire.specs.declared.fault.Nfs4Error.TheVariants as nfs4_errors
 use Rattle.acl_wire.specs.declared.fault.Nfs4Fault.{Nfs4Fault}
 use Rattle.acl_wire.specs.declared.fault.Nfs4Fault.TheVariants as nfs4
 use Rattle.acl_wire.specs.declared.fault.PosixError.{PosixError}
 use Rattle.acl_wire.specs.declared.fault.PosixError.TheVariants as posix_errors
 use Rattle.acl_wire.specs.declared.fault.PosixFault.{PosixFault}
 use Rattle.acl_wire.specs.declared.fault.PosixFault.TheVariants as posix
-use Rattle.acl_wire.specs.declared.raw_ace.Purpose.TheVariants.{Decide}
 use Rattle.acl_wire.specs.declared.raw_ace.RawAce.{RawAce}
 
 -- the group of a number, if it is one
@@ -80,6 +78,16 @@ UnlikeFor first owner group second other_owner other_group request
     (Err (posix_errors.Fault fault)) =
     lists_compared first owner group second other_owner other_group request ≡ Err fault
 
+-- the most entries of an NFSv4 list that is compared: twice as many name fewer users than there
+-- are
+abbrev pub most_compared : ℕ
+most_compared = 2000000000
+
+-- the entries of a list that is compared
+abbrev pub compared_of : List RawAce → Result (List Nfsace4) Nfs4Fault
+compared_of raws = if nat_le (length raws) most_compared then values_of raws
+    else Err nfs4.TooMany
+
 -- the NFSv4 lists that are compared in these bits
 unfoldable pub aces_compared : List RawAce → ℕ → ℕ → List RawAce → ℕ → ℕ → ℕ
     → Result (Pair Nfsace4) Nfs4Fault
@@ -87,8 +95,8 @@ aces_compared first owner group second other_owner other_group bits = do
   owners ← or_fault nfs4.Argument (owners_in owner group)
   others ← or_fault nfs4.Argument (owners_in other_owner other_group)
   asked ← if is_request bits then Ok bits else Err nfs4.Argument
-  one ← list_of Decide first
-  other ← list_of Decide second
+  one ← compared_of first
+  other ← compared_of second
   Ok (record { first = one; owners = owners; second = other; others = others })
 
 -- of these bits somebody loses those that are granted only before and gains those that are granted
@@ -112,12 +120,10 @@ Differ first owners second others bits (Some difference) =
 
 -- a call answers that of the lists of these entries
 abbrev pub DiffersFrom : List RawAce → ℕ → ℕ → List RawAce → ℕ → ℕ → ℕ
-    → Result (Option RawDifference) Nfs4Error → Type 0
+    → Result (Option RawDifference) Nfs4Fault → Type 0
 DiffersFrom first owner group second other_owner other_group bits (Ok difference) =
     (pair : Pair Nfsace4)
     × (aces_compared first owner group second other_owner other_group bits ≡ Ok pair)
     × Differ pair.first pair.owners pair.second pair.others bits difference
-DiffersFrom first owner group second other_owner other_group bits (Err nfs4_errors.Memory) =
-    Unit {0}
-DiffersFrom first owner group second other_owner other_group bits (Err (nfs4_errors.Fault fault)) =
+DiffersFrom first owner group second other_owner other_group bits (Err fault) =
     aces_compared first owner group second other_owner other_group bits ≡ Err fault

@@ -4,6 +4,7 @@ use Rattle.std.specs.Prelude.{Some, None, Result, Ok, Err, is_some, unwrap_or, i
 use Rattle.std.specs.List.{list_all}
 use Rattle.acl_names.specs.Bits.{has}
 use Rattle.acl_names.specs.Requester.{Identity}
+use Rattle.acl_names.specs.Steps.{◌>>=◌}
 use Rattle.acl_nfs4.specs.Ace.{Nfsace4}
 use Rattle.acl_nfs4.specs.Evaluation.{Grants, places_of, verdict}
 use Rattle.acl_nfs4.specs.Who.{matches}
@@ -19,6 +20,14 @@ use Rattle.acl_wire.specs.declared.raw_ace.RawAce.{RawAce}
 -- the entry of these numbers where it is decided by: it needn't have an effect
 abbrev pub value_of : RawAce → Result Nfsace4 Nfs4Fault
 value_of raw = ace_of_raw (seen Decide raw)
+
+-- all entries, each of which can be decided by; or what is wrong with the first that can't
+unfoldable pub values_of : List RawAce → Result (List Nfsace4) Nfs4Fault
+values_of [] = Ok []
+values_of (raw ∷ raws) = do
+  ace ← value_of raw
+  others ← values_of raws
+  Ok (ace ∷ others)
 
 -- the entries before the first that is none, and what is wrong with that one
 pub record Front : Type 0 where
@@ -87,6 +96,16 @@ abbrev pub GrantsOf : Result (List Nfsace4) Nfs4Fault → ℕ → ℕ → Identi
 GrantsOf entries owner group requester request (Ok granted) = (aces : List Nfsace4)
     × (entries ≡ Ok aces) × (IsTrue granted ↔ Grants (matches owner group requester) aces request)
 GrantsOf entries owner group requester request (Err fault) = entries ≡ Err fault
+
+-- what is a list as a whole are entries that can be decided by
+abbrev pub ListsAreValues : Type 0
+ListsAreValues = (raws : List RawAce) (aces : List Nfsace4) → list_of Decide raws ≡ Ok aces
+    → values_of raws ≡ Ok aces
+
+-- entries that can all be decided by decide as that list, whatever is asked
+abbrev pub ValuesDecideAsAWhole : Type 0
+ValuesDecideAsAWhole = (raws : List RawAce) (aces : List Nfsace4) (applies : Who → Bool)
+    (request : ℕ) → values_of raws ≡ Ok aces → deciding applies raws request ≡ Ok aces
 
 -- what is a list as a whole is decided by as that list, whatever is asked
 abbrev pub ListsDecideAsAWhole : Type 0

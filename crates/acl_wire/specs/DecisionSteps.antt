@@ -9,14 +9,14 @@ use Rattle.acl_wire.specs.declared.decision.Found.{Found}
 use Rattle.acl_wire.specs.declared.fault.Nfs4Fault.{Nfs4Fault}
 use Rattle.acl_wire.specs.declared.raw_ace.RawAce.{RawAce}
 
-module _ (applies : Who → Bool) where
-  -- what was found, with an entry more that concerns whoever asks
-  abbrev pub with_word : Found → Nfsace4 → Found
-  with_word found ace = record {
-    allowed = if is_allow ace.kind then found.allowed ∪ found.left ∩ ace.mask else found.allowed;
-    left = without found.left ace.mask;
-  }
+-- what was found, with an entry more that concerns whoever asks
+abbrev pub with_word : Found → Nfsace4 → Found
+with_word found ace = record {
+  allowed = if is_allow ace.kind then found.allowed ∪ found.left ∩ ace.mask else found.allowed;
+  left = without found.left ace.mask;
+}
 
+module _ (applies : Who → Bool) where
   -- and with any
   unfoldable pub with_ace : Found → Nfsace4 → Found
   with_ace found ace = if decides ace && applies ace.who then with_word found ace else found

@@ -12,6 +12,8 @@ pub mod Decision
 pub mod DecisionSteps
 pub mod Deletion
 pub mod Kept
+pub mod Keeping
+pub mod KeepingLaws
 pub mod ModeChange
 pub mod Inheritance
 pub mod Creation
@@ -19,6 +21,10 @@ pub mod WireLaws
 pub mod Written
 pub mod Text
 pub mod Compare
+pub mod CompareSteps
+pub mod Shown
 pub mod Xdr
 pub mod XdrRaws
 pub mod XdrWriting
+pub mod XdrWritten
+pub mod XdrNames

@@ -87,7 +87,7 @@ module _ (requester : Identity) (group request : ℕ) where
   after_read seen (Ok entry) = after seen entry
   after_read seen (Err fault) = None
 
-  -- what was seen of entries tells of them all that a check asks
+  -- what was seen of entries reports for them all that a check asks
   pub record IsSeen (entries : List EntryValue) (seen : Seen) : Type 0 where
     pub canonical : IsCanonical entries
     pub short : All (λ entry. IsShort entry.tag) entries

@@ -34,9 +34,9 @@ abbrev pub fault_in : {Y F : Type 0} → Result Y F → Option F
 fault_in (Ok value) = None
 fault_in (Err fault) = Some fault
 
--- a call puts the entries, and answers how many there are, or why there are none
-abbrev pub PutsEntries : Result (List RawAce) Nfs4Fault → Result ℕ Nfs4Fault → List RawAce
-    → List RawAce → Type 0
-PutsEntries entries (Ok count) old new = (raws : List RawAce) × (entries ≡ Ok raws)
-    × PutsInFront raws count old new
-PutsEntries entries (Err fault) old new = (entries ≡ Err fault) × (new ≡ old)
+-- a call puts the items of an answer, and answers how many there are, or why there is none
+abbrev pub PutsItems : {A : Type 0} → Result (List A) Nfs4Fault → Result ℕ Nfs4Fault → List A
+    → List A → Type 0
+PutsItems {A} answer (Ok count) old new = (items : List A) × (answer ≡ Ok items)
+    × PutsInFront items count old new
+PutsItems answer (Err fault) old new = (answer ≡ Err fault) × (new ≡ old)

@@ -1,4 +1,4 @@
-//! Whoever asks, with the groups where the caller keeps them.
+//! A user who requests access, with the groups in the caller's memory.
 
 ghost use Rattle.acl_names.specs.Requester.{is_in_group};
 
@@ -7,9 +7,9 @@ use acl_names::{Gid, Subject, Uid};
 /// A user, and the numbers of the groups that the user is in, which are borrowed.
 #[derive(Clone, Copy)]
 pub struct Caller<'a> {
-    /// The user who asks.
+    /// The user's id.
     pub uid: Uid,
-    /// The groups. A number that is no gid is nobody's group.
+    /// The groups. A number that isn't a gid is in no list.
     pub gids: &'a [u32],
 }
 

@@ -14,12 +14,12 @@ use acl_names::{Gid, Uid};
 use acl_posix::{Entry, Invalid, Perms, entries_grant, entries_grant_on_linux};
 use bitflags::Flags;
 
-/// By whose rules a check is decided.
+/// The rules by which a check is decided.
 #[derive(Clone, Copy, Debug, PartialEq, Eq)]
 pub enum Rules {
     /// Those of 1003.1e draft 17, section 23.
     Draft,
-    /// Those of Linux, which passes over a list whose mask has no permission and goes by the mode.
+    /// Those of Linux, which ignores a list whose mask is empty, and uses the mode.
     Linux,
 }
 
@@ -79,10 +79,10 @@ fn any_order_grants(
     decide_or_refuse(entries.as_mut_slice(), rules, owner, group, caller, request)
 }
 
-/// Whether the POSIX list of the bytes grants a user who is in these groups all of the request, for
-/// a file of this owner and this group. The request has the bits of permissions: 4 to read, 2 to
-/// write, 1 to execute. An id that is none, or another bit, is the fault `Argument`, before all
-/// others. It takes no memory.
+/// Whether the POSIX list of the bytes grants a user in these groups all of the request, for a file
+/// of this owner and this group. The request has the bits of permissions: 4 to read, 2 to write, 1
+/// to execute. Fails with `Argument` if an id is out of range or the request has another bit,
+/// before all other faults. It takes no memory.
 #[inline(always)]
 #[tactic(auto, unfolding(crate::specs::Check::check_of))]
 pub fn xattr_grants(

@@ -1,22 +1,25 @@
-//! Lists compared for everybody.
+//! Comparing lists for everybody.
 
-ghost use Rattle.std.specs.Prelude.{◌≡◌, ◌≢◌, ◌≤◌, IfErr, length, option_to_list};
+ghost use Rattle.std.specs.Prelude.{◌≡◌, ◌≢◌, ◌≤◌, IfErr, List, None, Ok, length, option_to_list};
 ghost use Rattle.acl_names.specs.Asker.{identity_of};
-ghost use Rattle.acl_nfs4.specs.Mask.{mask_bits};
-ghost use Rattle.acl_wire.specs.Compare.{DiffersFrom, UnlikeFor, aces_compared, gids_of};
-ghost use Rattle.acl_wire.specs.Compare.{identity_in};
+ghost use Rattle.acl_nfs4.specs.Ace.{Nfsace4};
+ghost use Rattle.acl_wire.specs.Compare.{DiffersFrom, UnlikeFor, aces_compared, compared_of};
+ghost use Rattle.acl_wire.specs.Compare.{gids_of, identity_in, most_compared};
 ghost use Rattle.acl_wire.specs.Compare.{AreUnlike, Differ, lists_compared, owners_in};
-ghost use Rattle.acl_nfs4.specs.declared.limits.TheConstants.{INLINE_ACES};
+ghost use Rattle.acl_wire.specs.CompareSteps.{AllowsAt};
+ghost use Rattle.acl_wire.specs.Decision.{values_of};
 ghost use Rattle.acl_posix.specs.Perms.{bits_of};
 ghost use Rattle.acl_wire.specs.Posix.{IsShort};
+ghost use Rattle.acl_wire.specs.XdrRaws.{fault_in};
 
-use crate::raw_ace::is_request;
-use crate::{
-    Nfs4Error, Nfs4Fault, PosixError, PosixFault, Purpose, RawAce, acl_of_xattr, read_raw_aces,
-};
+use crate::decision::found_in;
+use crate::numbers::without_bits;
+use crate::raw_ace::{is_request, value_of};
+use crate::values::raws_fault;
+use crate::{Nfs4Fault, PosixError, PosixFault, RawAce, acl_of_xattr};
 use acl_bridge::request_difference;
 use acl_names::{Asker, Gid, Uid};
-use acl_nfs4::{Acl4, Mask, Owners};
+use acl_nfs4::{AboutWho, Compared, Owners, Who, difference_with, stranger};
 use acl_posix::{Acl, Perms};
 use bitflags::Flags;
 use std::alloc::Global;
@@ -24,7 +27,11 @@ use std::alloc::Global;
 /// The number that is no gid.
 const NO_GID: u32 = 0xffff_ffff;
 
-/// Somebody for whom lists differ: a user, who is in up to two groups.
+/// How many entries an NFSv4 list may have to be compared. Each names one user at most, and a user
+/// whom none names must be left.
+const MOST_COMPARED: usize = 2_000_000_000;
+
+/// A requester for whom lists differ: a user, in up to two groups.
 #[repr(C)]
 #[derive(Clone, Copy, Debug, PartialEq, Eq)]
 pub struct RawAsker {
@@ -36,20 +43,20 @@ pub struct RawAsker {
     pub other_gid: u32,
 }
 
-/// Somebody who is granted a request by one of two lists alone.
+/// A requester to whom only one of two lists grants a request.
 #[derive(Clone, Copy, Debug, PartialEq, Eq)]
 pub struct RawUnlike {
-    /// Who.
+    /// The requester.
     pub asker: RawAsker,
     /// Whether the first list grants it.
     pub before: bool,
 }
 
-/// Somebody for whom two lists differ, and what only the first and only the second allows.
+/// A requester for whom two lists differ, and what only the first and only the second allows.
 #[repr(C)]
 #[derive(Clone, Copy, Debug, PartialEq, Eq)]
 pub struct RawDifference {
-    /// Who.
+    /// The requester.
     pub asker: RawAsker,
     /// What only the first list allows.
     pub lost: u32,
@@ -105,31 +112,108 @@ fn unlike(
     }
 }
 
-/// Somebody for whom the lists decide some of the bits differently.
-fn difference(
-    first: &Acl4,
-    owners: &Owners,
-    second: &Acl4,
-    others: &Owners,
-    bits: Mask,
-) -> Option<RawDifference>
-    ensures { Differ first.now owners.now second.now others.now (mask_bits bits) result }
-{
-    match first.difference(owners, second, others, bits) {
-        Some(difference) => Some(RawDifference {
-            asker: raw_asker(&difference.asker),
-            lost: difference.lost.bits(),
-            gained: difference.gained.bits(),
-        }),
-        None => None,
+/// Two NFSv4 lists, each for a file of its own owners, as they are compared in these bits.
+#[derive(Clone, Copy)]
+struct Lists<'a> {
+    first: &'a [RawAce],
+    owners: &'a Owners,
+    second: &'a [RawAce],
+    others: &'a Owners,
+    bits: u32,
+}
+
+impl AboutWho for RawAce {
+    ghost use Rattle.acl_wire.specs.CompareSteps.{who_in};
+
+    ghost who = { who_in };
+
+    fn who(&self) -> Who {
+        match value_of(self) {
+            Ok(ace) => ace.who(),
+            Err(_) => Who::Everyone,
+        }
     }
 }
 
-/// Somebody to whom two POSIX lists grant the whole request differently, each for a file of its own
-/// owner and group: none exactly if they grant it to the same requesters, of whatever uid and
-/// groups. An id that is none, or a request above 7, is the fault `Argument`, before all others;
-/// then the faults of the first list come, and then those of the second. Memory runs out only if
-/// one of them has more than `INLINE_ENTRIES` entries.
+/// The bits of `bits` that the entries grant the requester.
+fn allowed_at(raws: &[RawAce], owners: &Owners, asker: &Asker, bits: u32) -> Result<u32, Nfs4Fault>
+    ensures { (aces : List Nfsace4) → values_of raws.now ≡ Ok aces
+        → AllowsAt aces owners.now (identity_of asker.now) bits result }
+{
+    let found = found_in(raws, owners.owner, owners.group, asker, bits)?;
+    Ok(found.allowed)
+}
+
+impl<'a> Compared for Lists<'a> {
+    ghost use Rattle.acl_wire.specs.CompareSteps.{AreAlike, AreUnlikeBy};
+
+    type Difference = RawDifference;
+
+    ghost Alike = { λ lists. AreAlike lists.first.now lists.owners.now lists.second.now
+        lists.others.now lists.bits };
+
+    ghost Differs = { λ lists. AreUnlikeBy lists.first.now lists.owners.now lists.second.now
+        lists.others.now lists.bits };
+
+    fn difference(&self, asker: &Asker) -> Option<RawDifference> {
+        let Ok(before) = allowed_at(self.first, self.owners, asker, self.bits) else {
+            return None;
+        };
+        let Ok(after) = allowed_at(self.second, self.others, asker, self.bits) else {
+            return None;
+        };
+        if before == after {
+            return None;
+        }
+        Some(RawDifference {
+            asker: raw_asker(asker),
+            lost: without_bits(before, after),
+            gained: without_bits(after, before),
+        })
+    }
+}
+
+/// Somebody for whom the lists decide some of the bits differently.
+fn difference(
+    first: &[RawAce],
+    owners: &Owners,
+    second: &[RawAce],
+    others: &Owners,
+    bits: u32,
+) -> Option<RawDifference>
+    requires first { length first.now ≤ most_compared }
+    requires second { length second.now ≤ most_compared }
+    ensures { (aces other_aces : List Nfsace4) → values_of first.now ≡ Ok aces
+        → values_of second.now ≡ Ok other_aces
+        → Differ aces owners.now other_aces others.now bits result }
+{
+    let lists = Lists {
+        first,
+        owners,
+        second,
+        others,
+        bits,
+    };
+    let stranger = stranger(first, owners.owner, second, others.owner, &[])?;
+    difference_with(&lists, first, owners, second, others, stranger)
+}
+
+/// Why the entries are not compared.
+fn not_compared(raws: &[RawAce]) -> Option<Nfs4Fault>
+    ensures fault { result ≡ fault_in (compared_of raws.now) }
+    ensures few { result ≡ None → length raws.now ≤ most_compared }
+{
+    if raws.len() > MOST_COMPARED {
+        return Some(Nfs4Fault::TooMany);
+    }
+    raws_fault(raws)
+}
+
+/// Compares two POSIX lists in the whole request, each for a file of its own owner and group.
+/// `None` exactly if both grant it to the same requesters, of whatever uid and groups; else a
+/// requester who loses or gains it. Fails with `Argument` if an id is out of range or the request
+/// is above 7, before all other faults; then with the faults of the first list, and then with those
+/// of the second. Memory runs out only if one of them has more than `INLINE_ENTRIES` entries.
 #[tactic(auto, unfolding(crate::specs::Compare::lists_compared))]
 pub fn xattr_difference(
     alloc: Global,
@@ -157,14 +241,16 @@ pub fn xattr_difference(
     Ok(unlike(&first, &owners, &second, &others, request))
 }
 
-/// Somebody for whom two NFSv4 lists decide some of these bits differently, each for a file of its
-/// own owner and group: none exactly if they decide each of them alike for every requester, of
-/// whatever uid and groups. An id that is none, or a bit of retention, is the fault `Argument`,
-/// before all others; then the faults of the first list come, and then those of the second. Memory
-/// runs out only if one of them has more than `INLINE_ACES` entries.
+/// Compares two NFSv4 lists in these bits, each for a file of its own owner and group. `None`
+/// exactly if both grant each bit to the same requesters, of whatever uid and groups; else a
+/// requester who loses or gains some. Fails with `Argument` if an id is out of range or the bits
+/// have one of retention, before all other faults; then with the faults of the first list, and then
+/// with those of the second; and with `TooMany` if one of them has more than 2,000,000,000 entries.
+///
+/// It evaluates both lists for a requester for each pair of their entries, in the caller's memory,
+/// and takes none: for twice as many entries of both it takes eight times as long.
 #[tactic(auto, unfolding(crate::specs::Compare::aces_compared))]
 pub fn raws_difference(
-    alloc: Global,
     first: &[RawAce],
     owner: u32,
     group: u32,
@@ -172,24 +258,19 @@ pub fn raws_difference(
     other_owner: u32,
     other_group: u32,
     bits: u32,
-) -> Result<Option<RawDifference>, Nfs4Error>
-    ensures value { DiffersFrom first.now owner group second.now other_owner other_group bits
-        result }
-    ensures short { length first.now ≤ INLINE_ACES → length second.now ≤ INLINE_ACES
-        → IfErr result (λ error. error ≢ Nfs4Error.Memory) }
+) -> Result<Option<RawDifference>, Nfs4Fault>
+    ensures { DiffersFrom first.now owner group second.now other_owner other_group bits result }
 {
     let owners = owners_of(owner, group).ok_or(Nfs4Fault::Argument)?;
     let others = owners_of(other_owner, other_group).ok_or(Nfs4Fault::Argument)?;
     if !is_request(bits) {
-        return Err(Nfs4Error::Fault(Nfs4Fault::Argument));
+        return Err(Nfs4Fault::Argument);
     }
-    let first = read_raw_aces(alloc, Purpose::Decide, first)?;
-    let second = read_raw_aces(alloc, Purpose::Decide, second)?;
-    Ok(difference(
-        &first,
-        &owners,
-        &second,
-        &others,
-        Mask::from_bits_retain(bits),
-    ))
+    if let Some(fault) = not_compared(first) {
+        return Err(fault);
+    }
+    if let Some(fault) = not_compared(second) {
+        return Err(fault);
+    }
+    Ok(difference(first, &owners, second, &others, bits))
 }

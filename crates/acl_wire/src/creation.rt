@@ -1,4 +1,4 @@
-//! What is made in a folder with an NFSv4 list, and the NFSv4 list of a mode.
+//! Creating something in a folder with an NFSv4 list, and the NFSv4 list of a mode.
 
 ghost use Rattle.std.specs.Prelude.{◌≡◌, ◌≢◌, ◌≤◌, ◌<◌, ◌++◌, ◌∷◌, [], IfErr, IfOk, IfSome, List};
 ghost use Rattle.std.specs.Prelude.{None, Some, false, length, option_map, true};
@@ -19,21 +19,21 @@ use acl_posix::Mode;
 use bitflags::Flags as FlagSet;
 use std::alloc::Global;
 
-/// What is made in a folder, and how.
+/// What is created in a folder, and how.
 #[repr(C)]
 #[derive(Clone, Copy, Debug, PartialEq, Eq)]
 pub struct Making {
     /// 0 is a file, 1 a directory.
     pub kind: u32,
-    /// The mode that it is to have.
+    /// The mode that is requested.
     pub mode: u32,
-    /// What is taken from the mode if nothing is inherited.
+    /// The bits that are removed from the mode if nothing is inherited.
     pub umask: u32,
     /// The number of the rule by which the mode is set on what is inherited.
     pub how: u32,
 }
 
-/// What servers check of an owner besides: `tTnNcCoy`.
+/// What servers also check for an owner: `tTnNcCoy`.
 const OWNER_ATTRIBUTES: u32 = 0x1E_0198;
 
 /// And of everybody: `tncy`.
@@ -72,11 +72,11 @@ fn dressed(
     }
 }
 
-/// The list of what is made in a folder with these entries: what it inherits (RFC 8881, section
-/// 6.4.3), with its mode set on it, whatever the umask; none if it inherits nothing. A kind, a
-/// mode, a umask or a rule that is none is the fault `Argument`, before all others, and a list that
-/// would have more than 128 entries is `TooMany`. Memory runs out only if the folder's list, or the
-/// one that is made, has more than `INLINE_ACES` entries.
+/// The list of what is created in a folder with these entries: what it inherits (RFC 8881, section
+/// 6.4.3), with its mode set on it, whatever the umask; `None` if it inherits nothing. Fails with
+/// `Argument` if the kind, the mode, the umask or the rule is out of range, before all other
+/// faults, and with `TooMany` if the list would have more than 128 entries. Memory runs out only if
+/// the folder's list, or the new one, has more than `INLINE_ACES` entries.
 #[tactic(auto, unfolding(crate::specs::Creation::created_of))]
 pub fn raws_created(
     alloc: Global,
@@ -98,7 +98,7 @@ pub fn raws_created(
     dressed(alloc, below.as_slice(), mode, rule)
 }
 
-/// The mode of what is made, whether it inherits or not: the umask is taken from it if not.
+/// The mode of what is created: without the umask's bits if it inherits nothing.
 pub fn mode_made(making: &Making, inherits: bool) -> u32
     ensures yes { (list : List Raw) → inherits ≡ true
         → result ≡ mode_made making.now (Some list) }
@@ -138,9 +138,9 @@ fn push_allowed(list: &mut Acl4, who: Who, bits: u32)
     let _pushed = list.push(ace);
 }
 
-/// The list that says what a mode says (as RFC 8881, section 6.3.2, shows it), and if that is
-/// asked for, what servers check besides: of the owner `tTnNcCoy`, of everybody `tncy`. A mode
-/// above octal 777 is the fault `Argument`. It takes no memory.
+/// The list of a mode (as RFC 8881, section 6.3.2, defines a list's mode), and if `attributes` is
+/// set, what servers also check: `tTnNcCoy` for the owner, `tncy` for everybody. Fails with
+/// `Argument` if the mode is above octal 777. It takes no memory.
 #[tactic(auto, unfolding(crate::specs::Creation::aces_of_mode))]
 pub fn acl4_of_mode(alloc: Global, mode: u32, attributes: bool) -> Result<Acl4, Nfs4Fault>
     ensures { result ≡ aces_of_mode mode attributes }

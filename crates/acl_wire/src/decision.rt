@@ -1,20 +1,19 @@
-//! Decisions by entries of numbers where the caller keeps them: no list is made of them.
+//! Decisions by entries of numbers in the caller's memory: no list is made of them.
 
 ghost use Rattle.std.specs.Prelude.{◌≡◌};
 ghost use Rattle.acl_names.specs.Requester.{Identity};
 ghost use Rattle.acl_nfs4.specs.Who.{matches};
 ghost use Rattle.acl_wire.specs.Decision.{AllowsOf, GrantsOf, SaysOf, decided_by, deciding};
-ghost use Rattle.acl_wire.specs.DecisionSteps.{goes_on, with_ace};
+ghost use Rattle.acl_wire.specs.DecisionSteps.{goes_on, with_ace, with_word};
 
 use crate::numbers::without_bits;
 use crate::raw_ace::{is_request, value_of};
 use crate::{Caller, Nfs4Fault, RawAce};
-use acl_names::{Gid, Uid};
+use acl_names::{Gid, Subject, Uid};
 use acl_nfs4::{Ace, AceType};
 use bitflags::Flags as FlagSet;
 
-/// What entries say of the bits of a request. Of a bit that is neither allowed nor denied they say
-/// nothing.
+/// Which bits of a request entries allow and deny. No entry has a bit that is in neither.
 #[repr(C)]
 #[derive(Clone, Copy, Debug, PartialEq, Eq)]
 pub struct Decided {
@@ -26,29 +25,21 @@ pub struct Decided {
 
 /// What was found of the bits of a request so far.
 #[derive(Clone, Copy)]
-struct Found {
+pub(crate) struct Found {
     /// The bits that are allowed.
-    allowed: u32,
+    pub(crate) allowed: u32,
     /// The bits of which no entry has spoken.
-    left: u32,
+    pub(crate) left: u32,
 }
 
 impl Found {
-    /// What is found with an entry more. Whom it is about is looked at only if it has a bit that is
-    /// open.
+    /// What is found with what an entry says.
     #[inline(always)]
-    #[tactic(auto, unfolding(crate::specs::DecisionSteps::with_ace))]
-    fn with_ace(self, ace: &Ace, owner: Uid, group: Gid, caller: &Caller<'_>) -> Found
-        ensures { result ≡ with_ace
-            (matches owner group (record { uid = caller.now.uid; gids = caller.now.gids.now })) self
-            ace.now }
+    pub(crate) fn with_word(self, ace: &Ace) -> Found
+        ensures { result ≡ with_word self ace.now }
     {
-        let told = self.left & ace.mask().bits();
-        if told == 0 || !ace.concerns(owner, group, caller) {
-            return self;
-        }
         let allowed = match ace.kind() {
-            AceType::Allow => self.allowed | told,
+            AceType::Allow => self.allowed | (self.left & ace.mask().bits()),
             _ => self.allowed,
         };
         Found {
@@ -56,18 +47,31 @@ impl Found {
             left: without_bits(self.left, ace.mask().bits()),
         }
     }
+
+    /// What is found with an entry more. Whom it is about is looked at only if it has a bit that is
+    /// open.
+    #[inline(always)]
+    #[tactic(auto, unfolding(crate::specs::DecisionSteps::with_ace))]
+    fn with_ace<S: Subject>(self, ace: &Ace, owner: Uid, group: Gid, subject: &S) -> Found
+        ensures { result ≡ with_ace (matches owner group (S.identity subject.now)) self ace.now }
+    {
+        let reported = self.left & ace.mask().bits();
+        if reported == 0 || !ace.concerns(owner, group, subject) {
+            return self;
+        }
+        self.with_word(ace)
+    }
 }
 
 /// What is found of the bits of a request.
-fn found_in(
+pub(crate) fn found_in<S: Subject>(
     raws: &[RawAce],
     owner: Uid,
     group: Gid,
-    caller: &Caller<'_>,
+    subject: &S,
     request: u32,
 ) -> Result<Found, Nfs4Fault>
-    ensures { result ≡ goes_on
-        (matches owner group (record { uid = caller.now.uid; gids = caller.now.gids.now }))
+    ensures { result ≡ goes_on (matches owner group (S.identity subject.now))
         (record { allowed = 0; left = request }) raws.now }
 {
     let mut found = Found {
@@ -79,7 +83,7 @@ fn found_in(
             return Ok(found);
         }
         let ace = value_of(raw)?;
-        found = found.with_ace(&ace, owner, group, caller);
+        found = found.with_ace(&ace, owner, group, subject);
     }
     Ok(found)
 }
@@ -104,14 +108,14 @@ fn decide(
     })
 }
 
-/// What the entries say of each bit of a request to a user who is in these groups, for a file of
-/// this owner and this group (RFC 8881, section 6.2.1): the first entry that speaks of a bit
-/// decides it. An id that is none, or a bit of retention in the request, is the fault `Argument`,
-/// before all others.
+/// Which bits of a request the entries allow and deny a user in these groups, for a file of this
+/// owner and this group (RFC 8881, section 6.2.1): the first entry that applies to the user and has
+/// a bit decides it. Fails with `Argument` if an id is out of range or the request has a bit of
+/// retention, before all other faults.
 ///
-/// It goes down the entries once, however many there are, until no bit is open, and takes no
-/// memory. An entry that takes effect nowhere says nothing. One whose numbers are no entry is a
-/// fault if it is reached.
+/// It reads the entries once, however many there are, until every bit is decided, and takes no
+/// memory. An inherit-only entry decides nothing. An entry with malformed numbers is a fault if it
+/// is reached.
 #[inline(always)]
 #[tactic(auto, unfolding(crate::specs::Decision::decided_by))]
 pub fn raws_decide(
@@ -136,8 +140,8 @@ pub fn raws_decide(
     }
 }
 
-/// Those of the bits of a request that the entries allow, as `raws_decide` says: each exactly if a
-/// request for it alone is granted.
+/// The bits of a request that the entries allow, as `raws_decide` decides them: each exactly if it
+/// would be granted alone. Fails as `raws_decide` does.
 #[inline(always)]
 pub fn raws_allow(
     raws: &[RawAce],
@@ -156,7 +160,7 @@ pub fn raws_allow(
     }
 }
 
-/// Whether the entries grant all of the request, as `raws_decide` says of its bits. The empty
+/// Whether the entries grant all of the request, as `raws_decide` decides its bits. The empty
 /// request is granted.
 #[inline(always)]
 pub fn raws_grant(

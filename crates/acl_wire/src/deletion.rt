@@ -1,5 +1,5 @@
-//! Who may delete a file, rename it, or put another in its place (RFC 8881, section 6.2.1.3.2; for
-//! POSIX lists as Linux decides).
+//! Who may delete, rename or replace a file (RFC 8881, section 6.2.1.3.2; for POSIX lists as Linux
+//! decides).
 
 ghost use Rattle.std.specs.Prelude.{◌≡◌, ◌==◌, ◌&&◌, ◌||◌, ◌^◌, ℕ, List, unwrap_or, false, not};
 ghost use Rattle.acl_access.specs.Deletes.{delete, delete_child, deletes_by};
@@ -67,14 +67,14 @@ fn is_granted(in_folder: Decided, of_file: Decided, is_free: bool) -> bool
     )
 }
 
-/// Whether a user who is in these groups may delete a file with these entries, rename it, or put
-/// another in its place, in a folder with those (RFC 8881, section 6.2.1.3.2): if `DELETE` of the
-/// file or `DELETE_CHILD` of the folder is granted; or neither entry list says anything of either,
-/// and the folder grants `ADD_FILE`, and has no sticky bit or it or the file is the user's own.
-/// That the user may search the folder, and those above it, isn't asked.
+/// Whether a user in these groups may delete, rename or replace a file with the entries `raws` in a
+/// folder with the entries `folder` (RFC 8881, section 6.2.1.3.2): if the file grants `DELETE` or
+/// the folder `DELETE_CHILD`; or if no entry has either bit, the folder grants `ADD_FILE`, and it
+/// has no sticky bit, or the user owns it or the file. It doesn't check whether the user may search
+/// the folder and its parents.
 ///
-/// An id that is none is the fault `Argument`, before all others; then come the folder's faults.
-/// The entries are decided by as `raws_decide` says, however many there are, without memory.
+/// Fails with `Argument` if an id is out of range, before all other faults; then the folder's
+/// faults come. Entries are evaluated as by `raws_decide`, however many there are, without memory.
 #[tactic(auto, unfolding(crate::specs::Deletion::raws_deletion))]
 pub fn raws_delete(
     sticky: bool,
@@ -100,11 +100,11 @@ pub fn raws_delete(
     Ok(is_granted(in_folder, of_file, is_free))
 }
 
-/// The same of a file of this owner in a folder with the POSIX list of the bytes, as Linux decides,
-/// whatever list the file has: the folder has to grant to write and to execute at once, and if it
-/// has the sticky bit, it or the file has to be the user's own. `rules` say how the folder's list
-/// is decided by. An id that is none is the fault `Argument`, before all others. It takes no
-/// memory.
+/// The same for a file of this owner in a folder with the POSIX list of the bytes, as Linux decides
+/// it, whatever list the file has: the folder must grant to write and to execute at once, and if it
+/// has the sticky bit, the user must own it or the file. `rules` are those by which the folder's
+/// list is evaluated. Fails with `Argument` if an id is out of range, before all other faults. It
+/// takes no memory.
 #[tactic(auto, unfolding(crate::specs::Deletion::xattr_deletion, crate::specs::Check::check_of))]
 pub fn xattr_delete(
     rules: Rules,

@@ -1,4 +1,4 @@
-//! NFSv4 entries of numbers in the making, as many as a list may have.
+//! NFSv4 entries of numbers under construction, as many as a list may have.
 
 ghost use Rattle.std.specs.Prelude.{◌≡◌, ◌<◌, ◌≤◌, ◌++◌, ◌∷◌, [], drop, length, OnErr, OnOk};
 ghost use Rattle.acl_nfs4.specs.declared.limits.TheConstants.{MAX_ACES};
@@ -11,7 +11,7 @@ use crate::raw_writing::raw_of;
 use acl_nfs4::{Ace, MAX_ACES};
 use arrayvec::ArrayVec;
 
-/// Entries in the making. They have room where they are, so they take no memory.
+/// Entries under construction. They are stored inline, so they take no memory.
 pub type RawAces = ArrayVec<RawAce, MAX_ACES>;
 
 /// There is no room for a further entry.
@@ -60,8 +60,8 @@ fn put_raws(raws: &[RawAce], out: &mut [RawAce])
     out[..end].copy_from_slice(raws);
 }
 
-/// Puts the entries in front of `out`, if it has room for all, and else leaves `out` as it was. The
-/// answer is how many there are.
+/// Copies the entries to the front of `out`, if it has room for all, and else leaves `out` as it
+/// was. Returns how many entries there are.
 pub fn write_raws(raws: &[RawAce], out: &mut [RawAce]) -> usize
     ensures { PutsInFront raws.now result out.old out.new }
 {

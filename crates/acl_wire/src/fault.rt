@@ -1,4 +1,4 @@
-//! Why a call on bytes or on entries answers nothing.
+//! Why a call on bytes or on entries fails.
 
 ghost use Rattle.std.specs.Prelude.{◌≡◌};
 ghost use Rattle.acl_wire.specs.declared.fault.PosixError.TheVariants as posix;
@@ -7,12 +7,12 @@ ghost use Rattle.acl_wire.specs.declared.fault.Nfs4Error.TheVariants as nfs4;
 use acl_posix::TextFault;
 use std::alloc::AllocError;
 
-/// Why a call on the bytes of a POSIX list answers nothing: the first of these that applies.
+/// Why a call on the bytes of a POSIX list is refused: the first of these that applies.
 #[derive(Clone, Copy, Debug, PartialEq, Eq)]
 pub enum PosixFault {
     /// A uid, a gid, a mode or a request is out of its range.
     Argument,
-    /// The bytes are no version and a whole number of entries.
+    /// The bytes aren't a version and a whole number of entries.
     Size,
     /// The version is not 2.
     Version,
@@ -26,18 +26,18 @@ pub enum PosixFault {
     Perms,
     /// The entry for the owner, the file's group or the others is missing.
     Missing,
-    /// A tag with its id stands twice.
+    /// Two entries have the same tag and id.
     Repeated,
-    /// A user or a group is named, and there is no mask.
+    /// There is an entry for a user or a group by id, and no mask.
     NoMask,
 }
 
 /// Why a call on the bytes of a POSIX list fails.
 #[derive(Clone, Copy, Debug, PartialEq, Eq)]
 pub enum PosixError {
-    /// There is no answer.
+    /// The bytes, or the other arguments, are refused.
     Fault(PosixFault),
-    /// Memory ran out, which says nothing of the bytes.
+    /// Memory ran out; the bytes may be a list.
     Memory,
 }
 
@@ -65,13 +65,13 @@ impl From<AllocError> for PosixError {
     }
 }
 
-/// Why a call on NFSv4 entries answers nothing: the first of these that applies, entry by entry
-/// from `Type` on.
+/// Why a call on NFSv4 entries is refused: the first of these that applies, entry by entry from
+/// `Type` on.
 #[derive(Clone, Copy, Debug, PartialEq, Eq)]
 pub enum Nfs4Fault {
     /// A uid, a gid or a mode is out of its range.
     Argument,
-    /// The bytes end too early, or go on behind the last entry.
+    /// The bytes end too early, or go on after the last entry.
     Size,
     /// There are more than 128 entries.
     TooMany,
@@ -84,11 +84,11 @@ pub enum Nfs4Fault {
     /// An entry has `ACE4_INHERITED_ACE` or a bit of retention, in the place of `Flags` or `Mask`:
     /// a text wouldn't keep it.
     Unkept,
-    /// It doesn't say whom an entry is about.
+    /// An entry doesn't say whom it is for.
     Who,
     /// An entry names a user or a group by the undefined id.
     Id,
-    /// The who of an entry is a name, which only a directory knows, or is none.
+    /// The who of an entry is a name, which only a directory resolves, or none at all.
     UnknownName,
     /// An entry has `INHERIT_ONLY` without `FILE_INHERIT` or `DIRECTORY_INHERIT`.
     InheritOnly,
@@ -97,9 +97,9 @@ pub enum Nfs4Fault {
 /// Why a call on NFSv4 entries fails.
 #[derive(Clone, Copy, Debug, PartialEq, Eq)]
 pub enum Nfs4Error {
-    /// There is no answer.
+    /// The entries, or the other arguments, are refused.
     Fault(Nfs4Fault),
-    /// Memory ran out, which says nothing of the entries.
+    /// Memory ran out; the entries may be a list.
     Memory,
 }
 

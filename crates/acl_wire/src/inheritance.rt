@@ -69,9 +69,9 @@ fn all_inherited(raws: &[RawAce], aces: &[Ace], kind: Kind) -> RawAces
     draft
 }
 
-/// What a new file, or a new directory, inherits, before a mode is set. All bits that have a
-/// meaning stay, `ACE4_INHERITED_ACE` as the folder's entry has it. Memory runs out for more than
-/// `INLINE_ACES` entries alone.
+/// The entries that a new file, or a new directory, inherits, before a mode is set. All bits that
+/// have a meaning stay, `ACE4_INHERITED_ACE` as the folder's entry has it. Memory runs out only for
+/// more than `INLINE_ACES` entries.
 #[tactic(auto, unfolding(crate::specs::Inheritance::inherited_of))]
 pub fn raws_inherited(alloc: Global, raws: &[RawAce], kind: Kind) -> Result<RawAces, Nfs4Error>
     ensures value { Answers (λ draft. draft.items) result (inherited_of kind raws.now) }

@@ -11,6 +11,7 @@ mod deletion;
 mod draft;
 mod fault;
 mod inheritance;
+mod keeping;
 mod laws;
 mod mode_change;
 mod numbers;
@@ -18,10 +19,14 @@ mod one_pass;
 mod posix;
 mod raw_ace;
 mod raw_writing;
+mod shown;
 mod text;
+mod values;
 mod xattr_reading;
 mod xattr_writing;
 mod xdr;
+mod xdr_entry;
+mod xdr_names;
 mod xdr_raws;
 mod xdr_writing;
 
@@ -34,7 +39,7 @@ pub use deletion::{raws_delete, xattr_delete};
 pub use draft::{RawAces, write_raws};
 pub use fault::{Nfs4Error, Nfs4Fault, PosixError, PosixFault};
 pub use inheritance::raws_inherited;
-pub use laws::{decision_laws, wire_laws};
+pub use laws::{decision_laws, keeping_laws, wire_laws};
 pub use mode_change::{ModeRule, raws_with_mode};
 pub use posix::{
     acl_of_mode, acl_of_xattr, xattr_at_creation, xattr_translated, xattr_translated_default,
@@ -42,9 +47,13 @@ pub use posix::{
 };
 pub use raw_ace::{Purpose, RawAce, read_raw_aces};
 pub use raw_writing::write_raw_aces;
+pub use shown::raws_mode;
 pub use text::{acl_of_text, acl4_of_text, raws_text, write_bytes, xattr_text};
+pub use values::raws_fault;
 pub use xattr_reading::read_xattr;
 pub use xattr_writing::{XATTR_ENTRY_LEN, XATTR_HEADER_LEN, write_xattr};
 pub use xdr::acl4_of_xdr;
+pub use xdr_entry::put_xdr_entry;
+pub use xdr_names::{BY_NAME, XdrPlace, xdr_next};
 pub use xdr_raws::put_xdr_raws;
 pub use xdr_writing::raws_xdr;

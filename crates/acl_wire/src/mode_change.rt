@@ -6,16 +6,19 @@ ghost use Rattle.acl_names.specs.Bits.{has};
 ghost use Rattle.acl_nfs4.specs.Ace.{decides};
 ghost use Rattle.acl_nfs4.specs.Flags.{directory_inherit, file_inherit};
 ghost use Rattle.acl_nfs4.specs.ModeChange.{for_owner, kept_mask, kept_of_entry, kept_of_list};
+ghost use Rattle.acl_nfs4.specs.ModeChange.{with_denials};
 ghost use Rattle.acl_nfs4.specs.declared.limits.TheConstants.{INLINE_ACES, MAX_ACES};
 ghost use Rattle.acl_nfs4.specs.declared.who.Who.{Who};
 ghost use Rattle.acl_posix.specs.Perms.{bits_of};
-ghost use Rattle.acl_wire.specs.Kept.{kept_ace, kept_aces};
-ghost use Rattle.acl_wire.specs.ModeChange.{changed, chmod_of, classes_in, fits, rule_in};
-ghost use Rattle.acl_wire.specs.ModeChange.{with_mode_by};
+ghost use Rattle.acl_wire.specs.Kept.{kept_ace, kept_aces, kept_list};
+ghost use Rattle.acl_wire.specs.ModeChange.{changed, changed_by, chmod_of, classes_in, denied_by};
+ghost use Rattle.acl_wire.specs.ModeChange.{fits, rule_in};
+ghost use Rattle.acl_wire.specs.Keeping.{with_mode_keep};
 ghost use Rattle.acl_wire.specs.RawAces.{Answers, list_of};
 ghost use Rattle.acl_wire.specs.RawAcesWriting.{raw_of, raws_of};
 
 use crate::draft::{Full, RawAces, push, push_aces, push_unless_empty};
+use crate::keeping::beside_named;
 use crate::numbers::{has_bit, without_bits};
 use crate::raw_ace::tidied;
 use crate::raw_writing::raw_of;
@@ -25,8 +28,8 @@ use acl_posix::{Mode, Perms};
 use bitflags::Flags as FlagSet;
 use std::alloc::Global;
 
-/// The bits of a mask that a file mode speaks of.
-const OF_MODE: u32 = 0x27;
+/// The bits of a mask that a file mode controls.
+pub(crate) const OF_MODE: u32 = 0x27;
 
 /// `FILE_INHERIT`.
 const FILE_INHERIT: u32 = 0x1;
@@ -37,7 +40,7 @@ const DIRECTORY_INHERIT: u32 = 0x2;
 /// `INHERIT_ONLY`.
 const INHERIT_ONLY: u32 = 0x8;
 
-/// The flags that speak of inheritance.
+/// The flags of inheritance.
 const INHERITANCE: u32 = 0xF;
 
 /// The mode of this number, at most octal 777.
@@ -56,10 +59,14 @@ pub(crate) fn mode_of_number(mode: u32) -> Result<Mode, Nfs4Fault>
 /// How a mode is set.
 #[derive(Clone, Copy, Debug, PartialEq, Eq)]
 pub enum ModeRule {
-    /// As the profile says: all that the mode's group lacks is denied to those whom entries name.
+    /// As the profile defines: all that the mode's group lacks is denied to those whom entries
+    /// name.
     Profile,
-    /// With no more denials than it takes, so that a mode that is set later can lift the others.
+    /// With as few denials as necessary, so that a mode that is set later can lift the others.
     Least,
+    /// Without denials for those whom entries name: these entries stay as they are, and the mode
+    /// gives the owner, the group and everyone what they don't decide.
+    Keep,
 }
 
 /// The rule of this number.
@@ -69,13 +76,14 @@ pub(crate) fn rule_of_number(how: u32) -> Result<ModeRule, Nfs4Fault>
     match how {
         0 => Ok(ModeRule::Profile),
         1 => Ok(ModeRule::Least),
+        2 => Ok(ModeRule::Keep),
         _ => Err(Nfs4Fault::Argument),
     }
 }
 
 /// Whether an entry of this type with these flags decides.
 #[tactic(auto, unfolding(acl_nfs4::specs::Ace::decides))]
-fn decides(kind: AceType, flags: u32) -> bool
+pub(crate) fn decides(kind: AceType, flags: u32) -> bool
     ensures { (who : Who) (mask : ℕ) → result ≡ decides (record {
       kind = kind;
       flags = flags;
@@ -124,7 +132,12 @@ pub(crate) fn kept_raw(raw: &RawAce, ace: &Ace) -> RawAce
 /// What an entry leaves beside a mode, with all bits that have a meaning: one that doesn't decide
 /// stays; one that is inherited too becomes one entry for each; and what takes effect keeps no bit
 /// that the mode takes.
-fn push_kept_of(draft: &mut RawAces, raw: &RawAce, ace: &Ace, group: Perms) -> Result<(), Full>
+pub(crate) fn push_kept_of(
+    draft: &mut RawAces,
+    raw: &RawAce,
+    ace: &Ace,
+    group: Perms,
+) -> Result<(), Full>
     ensures ok { OnOk result (draft.new.items ≡ draft.old.items
         ++ raws_of (kept_of_entry (bits_of group) (kept_ace raw.now ace.now))) }
     ensures full { OnErr result (MAX_ACES < length (draft.old.items
@@ -165,7 +178,7 @@ fn push_kept(draft: &mut RawAces, raws: &[RawAce], aces: &[Ace], group: Perms) -
     Ok(())
 }
 
-/// What stands in front, what the old entries leave, and what stands behind.
+/// The entries in front, what is left of the old ones, and the entries at the end.
 fn assembled(
     front: &[Ace],
     raws: &[RawAce],
@@ -235,45 +248,80 @@ fn kept_len(aces: &[Ace], group: Perms) -> usize
     len
 }
 
-/// Sets the mode by the rule.
-fn set_mode(alloc: Global, acl: &mut Acl4, mode: Mode, rule: ModeRule) -> Result<(), Fault4>
-    ensures ok { OnOk result (acl.new ≡ with_mode_by rule acl.old mode) }
+/// Sets the mode with denials, all or the least.
+fn set_mode(alloc: Global, acl: &mut Acl4, mode: Mode, least: bool) -> Result<(), Fault4>
+    ensures ok { OnOk result (acl.new ≡ with_denials (denied_by least mode) acl.old mode) }
     ensures too_many { (result ≡ Err Fault4.TooMany)
-        ↔ (MAX_ACES < length (with_mode_by rule acl.old mode)) }
-    ensures short { length (with_mode_by rule acl.old mode) ≤ INLINE_ACES → IsOk result }
+        ↔ (MAX_ACES < length (with_denials (denied_by least mode) acl.old mode)) }
+    ensures short { length (with_denials (denied_by least mode) acl.old mode) ≤ INLINE_ACES
+        → IsOk result }
 {
-    match rule {
-        ModeRule::Profile => acl.chmod4(alloc, mode),
-        ModeRule::Least => acl.chmod4_least(alloc, mode),
+    if least {
+        acl.chmod4_least(alloc, mode)
+    } else {
+        acl.chmod4(alloc, mode)
     }
 }
 
-/// What the old entries leave, with what stands around it.
+/// What is left of the old entries, with the entries in front and at the end.
 fn with_around(
     alloc: Global,
     raws: &[RawAce],
     aces: &[Ace],
     base: Acl4,
     mode: Mode,
-    rule: ModeRule,
+    least: bool,
 ) -> Result<RawAces, Nfs4Error>
     requires read { list_of Purpose.Decide raws.now ≡ Ok aces.now }
     requires base { base ≡ aces.now }
     ensures value { Answers (λ draft. draft.items) result
-        (fits (with_mode_by rule (kept_aces raws.now aces.now) mode)) }
-    ensures short { length (with_mode_by rule (kept_aces raws.now aces.now) mode) ≤ INLINE_ACES
-        → IfErr result (λ error. error ≢ Nfs4Error.Memory) }
+        (fits (with_denials (denied_by least mode) (kept_aces raws.now aces.now) mode)) }
+    ensures short { length (with_denials (denied_by least mode) (kept_aces raws.now aces.now) mode)
+        ≤ INLINE_ACES → IfErr result (λ error. error ≢ Nfs4Error.Memory) }
 {
     let mut around = base;
     let front = front_len(mode.user);
     let behind = front + kept_len(around.aces(), mode.group);
-    match set_mode(alloc, &mut around, mode, rule) {
+    match set_mode(alloc, &mut around, mode, least) {
         Ok(()) => {}
         Err(Fault4::TooMany) => return Err(Nfs4Error::Fault(Nfs4Fault::TooMany)),
         Err(Fault4::Memory) => return Err(Nfs4Error::Memory),
     }
     let around = around.aces();
     match assembled(&around[..front], raws, aces, mode.group, &around[behind..]) {
+        Ok(draft) => Ok(draft),
+        Err(_) => Err(Nfs4Error::Fault(Nfs4Fault::TooMany)),
+    }
+}
+
+/// The list with the mode set with denials, all or the least.
+fn with_denials(
+    alloc: Global,
+    raws: &[RawAce],
+    mode: Mode,
+    least: bool,
+) -> Result<RawAces, Nfs4Error>
+    ensures value { Answers (λ draft. draft.items) result
+        (changed_by (λ list. with_denials (denied_by least mode) list mode) raws.now) }
+    ensures short { length raws.now ≤ INLINE_ACES → IfOk (kept_list raws.now)
+        (λ aces. length (with_denials (denied_by least mode) aces mode) ≤ INLINE_ACES)
+        → IfErr result (λ error. error ≢ Nfs4Error.Memory) }
+{
+    let acl = read_raw_aces(alloc, Purpose::Decide, raws)?;
+    // Read again, since one is changed while the other still reports what the entries were.
+    let base = read_raw_aces(alloc, Purpose::Decide, raws)?;
+    with_around(alloc, raws, acl.aces(), base, mode, least)
+}
+
+/// The list with the mode set, and the entries that name users and groups as they were.
+fn with_named(alloc: Global, raws: &[RawAce], mode: Mode) -> Result<RawAces, Nfs4Error>
+    ensures value { Answers (λ draft. draft.items) result
+        (changed_by (λ list. with_mode_keep list mode) raws.now) }
+    ensures short { length raws.now ≤ INLINE_ACES
+        → IfErr result (λ error. error ≢ Nfs4Error.Memory) }
+{
+    let acl = read_raw_aces(alloc, Purpose::Decide, raws)?;
+    match beside_named(raws, acl.aces(), mode) {
         Ok(draft) => Ok(draft),
         Err(_) => Err(Nfs4Error::Fault(Nfs4Fault::TooMany)),
     }
@@ -292,17 +340,18 @@ pub(crate) fn changed(
         → IfOk (changed rule mode raws.now) (λ made. length made ≤ INLINE_ACES)
         → IfErr result (λ error. error ≢ Nfs4Error.Memory) }
 {
-    let acl = read_raw_aces(alloc, Purpose::Decide, raws)?;
-    // Read again, since one is changed while the other still tells what the entries were.
-    let base = read_raw_aces(alloc, Purpose::Decide, raws)?;
-    with_around(alloc, raws, acl.aces(), base, mode, rule)
+    match rule {
+        ModeRule::Profile => with_denials(alloc, raws, mode, false),
+        ModeRule::Least => with_denials(alloc, raws, mode, true),
+        ModeRule::Keep => with_named(alloc, raws, mode),
+    }
 }
 
 /// The list with a mode set (within RFC 8881, section 6.4.1.1), by the rule of this number: 0 is
-/// `Profile`, 1 `Least`. All bits that have a meaning stay. A mode above octal 777, or no rule, is
-/// the fault `Argument`, before all others, and a list that would have more than 128 entries is
-/// `TooMany`. Memory runs out only if the list, or the one that it becomes, has more than
-/// `INLINE_ACES` entries.
+/// `Profile`, 1 `Least`, 2 `Keep`. All bits that have a meaning stay. A mode above octal 777, or no
+/// rule, is the fault `Argument`, before all others, and a list that would have more than 128
+/// entries is `TooMany`. Memory runs out only if the list, or the one that it becomes, has more
+/// than `INLINE_ACES` entries.
 #[tactic(auto, unfolding(crate::specs::ModeChange::chmod_of))]
 pub fn raws_with_mode(
     alloc: Global,

@@ -25,7 +25,7 @@ pub(crate) fn has_bit(set: u32, bit: u32) -> bool
     set & bit == bit
 }
 
-/// The number in the first four bytes, and what stands behind them.
+/// The number in the first four bytes, and the bytes after them.
 #[inline(always)]
 pub(crate) fn u32_at(bytes: &[u8]) -> Result<(u32, &[u8]), PosixFault>
     ensures { Reads (λ x. (x.0, x.1.now)) result (number_at w32 bytes.now) }

@@ -69,7 +69,7 @@ impl Seen {
         }
     }
 
-    /// Adds the owner's entry, and tells whether it may stand behind the others.
+    /// Adds the owner's entry, and returns whether it may come after the others.
     #[inline(always)]
     fn add_owner(&mut self, caller: &Caller<'_>, group: Gid, request: Perms, perms: Perms) -> bool
         ensures { after (record { uid = caller.now.uid; gids = caller.now.gids.now }) group
@@ -84,7 +84,7 @@ impl Seen {
         true
     }
 
-    /// Adds the entry of a user, and tells whether it may stand behind the others.
+    /// Adds the entry of a user, and returns whether it may come after the others.
     #[inline(always)]
     fn add_user(
         &mut self,
@@ -110,7 +110,7 @@ impl Seen {
         true
     }
 
-    /// Adds the entry of the file's group, and tells whether it may stand behind the others.
+    /// Adds the entry of the file's group, and returns whether it may come after the others.
     #[inline(always)]
     fn add_file_group(
         &mut self,
@@ -134,7 +134,7 @@ impl Seen {
         true
     }
 
-    /// Adds the entry of a group, and tells whether it may stand behind the others.
+    /// Adds the entry of a group, and returns whether it may come after the others.
     #[inline(always)]
     fn add_group(
         &mut self,
@@ -160,7 +160,7 @@ impl Seen {
         true
     }
 
-    /// Adds the mask, and tells whether it may stand behind the others.
+    /// Adds the mask, and returns whether it may come after the others.
     #[inline(always)]
     fn add_mask(&mut self, caller: &Caller<'_>, group: Gid, request: Perms, perms: Perms) -> bool
         ensures { after (record { uid = caller.now.uid; gids = caller.now.gids.now }) group
@@ -175,7 +175,7 @@ impl Seen {
         true
     }
 
-    /// Adds the others' entry, and tells whether it may stand behind the others.
+    /// Adds the others' entry, and returns whether it may come after the others.
     #[inline(always)]
     fn add_others(&mut self, caller: &Caller<'_>, group: Gid, request: Perms, perms: Perms) -> bool
         ensures { after (record { uid = caller.now.uid; gids = caller.now.gids.now }) group
@@ -190,7 +190,7 @@ impl Seen {
         true
     }
 
-    /// Adds the entry of these fields, and tells whether they are one, and it may stand there.
+    /// Adds the entry of these fields, and reports whether they are one, and it may stand there.
     #[inline(always)]
     #[tactic(auto, unfolding(crate::specs::XattrReading::entry_of))]
     fn add_fields(

@@ -20,7 +20,7 @@ pub(crate) fn kind_number(kind: AceType) -> u32
     }
 }
 
-fn special_number(who: &Who) -> u32
+pub(crate) fn special_number(who: &Who) -> u32
     ensures { result ≡ special_number who.now }
 {
     match *who {

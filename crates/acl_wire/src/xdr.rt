@@ -1,6 +1,6 @@
 //! NFSv4 lists in XDR (RFC 4506): the bytes of the extended attribute `system.nfs4_acl`.
 
-ghost use Rattle.std.specs.Prelude.{◌≡◌, ◌≢◌, ◌≤◌, IfErr};
+ghost use Rattle.std.specs.Prelude.{◌≡◌, ◌≢◌, ◌≤◌, IfErr, IfOk, length};
 ghost use Rattle.acl_nfs4.specs.declared.limits.TheConstants.{INLINE_ACES, MAX_ACES};
 ghost use Rattle.acl_wire.specs.Numbers.{Reads};
 ghost use Rattle.acl_wire.specs.RawAces.{Answers};
@@ -14,6 +14,7 @@ use acl_nfs4::{Acl4, MAX_ACES};
 use std::alloc::Global;
 
 /// The number in the first four bytes, highest first, and what stands behind them.
+#[inline(always)]
 pub(crate) fn number_at(bytes: &[u8]) -> Result<(u32, &[u8]), Nfs4Fault>
     ensures { Reads (λ x. (x.0, x.1.now)) result (number_at bytes.now) }
 {
@@ -26,6 +27,7 @@ pub(crate) fn number_at(bytes: &[u8]) -> Result<(u32, &[u8]), Nfs4Fault>
 }
 
 /// A length in whole groups of four bytes.
+#[inline(always)]
 pub(crate) fn padded(len: usize) -> usize
     requires { len ≤ 0xffffffff }
     ensures { result ≡ padded len }
@@ -34,9 +36,11 @@ pub(crate) fn padded(len: usize) -> usize
 }
 
 /// The string that the bytes begin with, and what stands behind it and its padding.
+#[inline(always)]
 #[tactic(auto, unfolding(crate::specs::Xdr::text_at))]
-fn text_at(bytes: &[u8]) -> Result<(&[u8], &[u8]), Nfs4Fault>
-    ensures { Reads (λ x. (x.0.now, x.1.now)) result (text_at bytes.now) }
+pub(crate) fn text_at(bytes: &[u8]) -> Result<(&[u8], &[u8]), Nfs4Fault>
+    ensures few { IfOk result (λ x. length x.0.now ≤ 0xffffffff) }
+    ensures value { Reads (λ x. (x.0.now, x.1.now)) result (text_at bytes.now) }
 {
     let (len, rest) = number_at(bytes)?;
     let len = len as usize;
@@ -48,7 +52,7 @@ fn text_at(bytes: &[u8]) -> Result<(&[u8], &[u8]), Nfs4Fault>
 }
 
 /// What a who stands for: one of the three, or the id in decimal.
-fn who_in(text: &[u8]) -> Result<(u32, u32), Nfs4Fault>
+pub(crate) fn who_in(text: &[u8]) -> Result<(u32, u32), Nfs4Fault>
     ensures { result ≡ who_in text.now }
 {
     if text == b"OWNER@".as_slice() {

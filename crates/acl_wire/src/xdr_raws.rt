@@ -3,7 +3,7 @@
 //! to put it.
 
 ghost use Rattle.std.specs.Prelude.{◌≡◌, ◌≤◌, ◌++◌, ℕ, List, Ok, drop, length};
-ghost use Rattle.acl_wire.specs.XdrRaws.{PutsEntries, fault_in, raws_at, whole, xdr_raws_of};
+ghost use Rattle.acl_wire.specs.XdrRaws.{PutsItems, fault_in, raws_at, whole, xdr_raws_of};
 ghost use Rattle.acl_wire.specs.declared.raw_ace.RawAce.{RawAce as Raw};
 
 use crate::raw_ace::{tidied, value_of};
@@ -55,7 +55,7 @@ fn put_raws(count: usize, bytes: &[u8], out: &mut [RawAce])
 /// and the flag of a group at one of the three special identifiers, is 0.
 #[tactic(auto, unfolding(crate::specs::XdrRaws::xdr_raws_of))]
 pub fn put_xdr_raws(bytes: &[u8], out: &mut [RawAce]) -> Result<usize, Nfs4Fault>
-    ensures { PutsEntries (xdr_raws_of bytes.now) result out.old out.new }
+    ensures { PutsItems (xdr_raws_of bytes.now) result out.old out.new }
 {
     let (count, rest) = number_at(bytes)?;
     if let Some(fault) = fault_of(count, rest) {

@@ -13,9 +13,12 @@ use crate::raw_ace::{tidied, value_of};
 use crate::raw_writing::kind_number;
 use crate::xdr::padded;
 use crate::{Nfs4Error, Nfs4Fault, RawAce};
-use acl_names::push_decimal;
 use acl_nfs4::{Ace, Who};
+use itoa::Buffer;
 use std::alloc::{AllocError, Global};
+
+/// The most bytes of an entry without a name: of `EVERYONE@`, or of an id of nine or ten digits.
+const MOST_ENTRY_LEN: usize = 28;
 
 /// Appends the number in four bytes, highest first.
 fn push_number(number: u32, out: &mut Vec<u8>) -> Result<(), AllocError>
@@ -25,7 +28,7 @@ fn push_number(number: u32, out: &mut Vec<u8>) -> Result<(), AllocError>
 }
 
 /// So many zeros, at most 3.
-fn zeros(count: usize) -> &'static [u8]
+pub(crate) fn zeros(count: usize) -> &'static [u8]
     requires { count ≤ 3 }
     ensures { result.now ≡ replicate count 0 }
 {
@@ -38,7 +41,7 @@ fn zeros(count: usize) -> &'static [u8]
 }
 
 /// How many zeros fill a string of this length up.
-fn lacking(len: usize) -> usize
+pub(crate) fn lacking(len: usize) -> usize
     requires { len ≤ 0xffffffff }
     ensures value { result ≡ padded len - len }
     ensures few { result ≤ 3 }
@@ -68,9 +71,7 @@ fn push_text(text: &[u8], out: &mut Vec<u8>) -> Result<(), AllocError>
 fn push_id(id: u32, out: &mut Vec<u8>) -> Result<(), AllocError>
     ensures { OnOk result (out.new.items ≡ out.old.items ++ text_bytes (decimal id)) }
 {
-    let mut text = Vec::new(*out.allocator());
-    push_decimal(id, &mut text)?;
-    push_text(&text, out)
+    push_text(Buffer::new().format(id).as_bytes(), out)
 }
 
 /// Appends the who as a string.
@@ -102,7 +103,7 @@ fn written(alloc: Global, raws: &[RawAce]) -> Result<Vec<u8>, Nfs4Error>
     ensures { Answers (λ xdr. xdr.items) result
         (behind (to_be_bytes w32 (length raws.now)) (raws_bytes raws.now)) }
 {
-    let mut out = Vec::new(alloc);
+    let mut out = Vec::with_capacity(alloc, 4 + MOST_ENTRY_LEN * raws.len())?;
     push_number(raws.len() as u32, &mut out)?;
     for raw in raws {
         let ace = value_of(raw)?;

@@ -16,7 +16,7 @@ pub record AreWordsOf (bytes : List ℕ) (words : List (List ℕ)) : Type 0 wher
   pub within : length bytes ≤ max_bytes
   pub lines : words ≡ lines_of bytes
 
--- what the bytes that a reader tells can be refused for; a failed read and out of memory say
+-- what the bytes that a reader reports can be refused for; a failed read and out of memory say
 -- nothing of them
 abbrev pub IsInputFailure : Failure → List ℕ → Type 0
 IsInputFailure (CannotRead name reason) bytes = (name.now ≡ codes "-") × (reason ≡ Unknown)

@@ -8,7 +8,7 @@ use Rattle.aclctl.specs.declared.named.Named.{Named}
 use Rattle.aclctl.specs.declared.named.Named.TheVariants.{Decide, Explain, Compare, Run, Who}
 use Rattle.aclctl.specs.declared.named.Named.TheVariants.{Why, Impact, Restore, Translate}
 use Rattle.aclctl.specs.declared.named.Named.TheVariants.{Next}
-use Rattle.aclctl.specs.declared.named.Named.TheVariants.{List as ListTree, Dump, Lint}
+use Rattle.aclctl.specs.declared.named.Named.TheVariants.{List as ListTree, Accounts, Dump, Lint}
 use Rattle.aclctl.specs.declared.named.Named.TheVariants.{Help, Version}
 
 -- the command of this name
@@ -25,6 +25,7 @@ named word =
     else if bytes_eq word (codes "translate") then Some Translate
     else if bytes_eq word (codes "next") then Some Next
     else if bytes_eq word (codes "list") then Some ListTree
+    else if bytes_eq word (codes "accounts") then Some Accounts
     else if bytes_eq word (codes "dump") then Some Dump
     else if bytes_eq word (codes "lint") then Some Lint
     else if bytes_eq word (codes "help") then Some Help
@@ -45,6 +46,7 @@ name_of Restore = codes "restore"
 name_of Translate = codes "translate"
 name_of Next = codes "next"
 name_of ListTree = codes "list"
+name_of Accounts = codes "accounts"
 name_of Dump = codes "dump"
 name_of Lint = codes "lint"
 name_of Help = codes "--help"

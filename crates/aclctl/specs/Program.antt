@@ -5,14 +5,12 @@ use Rattle.std.specs.Io.KnownBytes.{Keeps}
 use Rattle.clap.specs.Words.{App, Text}
 use Rattle.acl_names.specs.Bytes.{newline}
 use Rattle.acl_cli.specs.Commands.{Answer, Ends, Meaning, of_words}
-use Rattle.acl_cli.specs.ErrorOutput.{ErrorText, Tells, line_of_words}
+use Rattle.acl_cli.specs.ErrorOutput.{ErrorText, Reports, line_of_words}
 use Rattle.acl_cli.specs.Failures.{failed_write, line_of, status_of}
 use Rattle.acl_cli.specs.declared.command.Ending.TheVariants.{Answered}
 use Rattle.acl_cli.specs.declared.failure.Failure.{Failure}
 use Rattle.acl_cli.specs.declared.failure.Failure.TheVariants.{Misuse}
 use Rattle.acl_cli.specs.declared.misuse.Misuse.TheVariants.{NoCommand}
-use Rattle.acl_lint.specs.LintAnswer.{lint_meaning}
-use Rattle.acl_lint.specs.LintLine.{lint_line}
 use Rattle.acl_listing_queries.specs.WhoLine.{who_line}
 use Rattle.acl_listing_queries.specs.WhoMeaning.{who_meaning}
 use Rattle.acl_listing_queries.specs.WhyLine.{why_line}
@@ -21,6 +19,7 @@ use Rattle.acl_listing_changes.specs.RestoreLine.{restore_line}
 use Rattle.acl_listing_changes.specs.RestoreMeaning.{restore_meaning}
 use Rattle.acl_listing_creation.specs.NextLine.{next_line}
 use Rattle.acl_listing_creation.specs.NextMeaning.{next_meaning}
+use Rattle.acl_listing_lint.specs.LintsLine.{lints_line}
 use Rattle.acl_listing_reach.specs.ImpactLine.{impact_line}
 use Rattle.acl_listing_reach.specs.ImpactMeaning.{impact_meaning}
 use Rattle.acl_listing_translation.specs.TranslateLine.{translate_line}
@@ -33,6 +32,8 @@ use Rattle.acl_queries.specs.ExplainLine.{explain_line}
 use Rattle.acl_queries.specs.ExplainText.{explain_meaning}
 use Rattle.acl_service.specs.RunLine.{run_line}
 use Rattle.acl_service.specs.RunMeaning.{run_meaning}
+use Rattle.acl_tree_queries.specs.AccountsAnswer.{accounts_meaning}
+use Rattle.acl_tree_queries.specs.AccountsLine.{accounts_line}
 use Rattle.acl_tree_queries.specs.DumpAnswer.{dump_meaning}
 use Rattle.acl_tree_queries.specs.DumpLine.{dump_line}
 use Rattle.acl_tree_queries.specs.ListAnswer.{list_meaning}
@@ -40,6 +41,7 @@ use Rattle.acl_tree_queries.specs.ListLine.{list_line}
 use Rattle.aclctl.specs.HelpOf.{no_fields}
 use Rattle.aclctl.specs.HelpText.{help_text}
 use Rattle.aclctl.specs.Input.{AreWordsOf, IsInputFailure}
+use Rattle.aclctl.specs.Lint.{lint_by, names_setup}
 use Rattle.aclctl.specs.Names.{asked, name_of}
 use Rattle.aclctl.specs.declared.named.Asked.{Asked}
 use Rattle.aclctl.specs.declared.named.Asked.TheVariants.{Command, HelpOf, Nothing}
@@ -47,10 +49,10 @@ use Rattle.aclctl.specs.declared.named.Named.{Named}
 use Rattle.aclctl.specs.declared.named.Named.TheVariants.{Decide, Explain, Compare, Run, Who}
 use Rattle.aclctl.specs.declared.named.Named.TheVariants.{Why, Impact, Restore, Translate}
 use Rattle.aclctl.specs.declared.named.Named.TheVariants.{Next}
-use Rattle.aclctl.specs.declared.named.Named.TheVariants.{List as ListTree, Dump, Lint}
+use Rattle.aclctl.specs.declared.named.Named.TheVariants.{List as ListTree, Accounts, Dump, Lint}
 use Rattle.aclctl.specs.declared.named.Named.TheVariants.{Help, Version}
 
--- what is reported of each file, by its name
+-- what is reported for each file, by its name
 abbrev pub Files : Type 0
 Files = Text → Option (List ℕ)
 
@@ -87,8 +89,10 @@ command_meaning files input Translate words =
 command_meaning files input Next words = of_words next_line true (next_meaning files input) words
 command_meaning files input ListTree words =
     of_words list_line true (list_meaning files input) words
+command_meaning files input Accounts words =
+    of_words accounts_line true (accounts_meaning files input) words
 command_meaning files input Dump words = of_words dump_line true (dump_meaning files input) words
-command_meaning files input Lint words = of_words lint_line true (lint_meaning files input) words
+command_meaning files input Lint words = lint_by (names_setup words) files input words
 command_meaning files input Help words = text_meaning help_text
 command_meaning files input Version words = text_meaning version_text
 
@@ -108,8 +112,9 @@ help_meaning Restore = help_by (name_of Restore) restore_line
 help_meaning Translate = help_by (name_of Translate) translate_line
 help_meaning Next = help_by (name_of Next) next_line
 help_meaning ListTree = help_by (name_of ListTree) list_line
+help_meaning Accounts = help_by (name_of Accounts) accounts_line
 help_meaning Dump = help_by (name_of Dump) dump_line
-help_meaning Lint = help_by (name_of Lint) lint_line
+help_meaning Lint = help_by (name_of Lint) lints_line
 help_meaning Help = text_meaning help_text
 help_meaning Version = text_meaning help_text
 
@@ -121,7 +126,7 @@ module _ {I : Type 0} (status : ℕ) (out out' : Option (List ℕ)) (err err' : 
     pub is_status : status ≡ status_of (Misuse NoCommand)
     pub silent : Keeps out out'
     pub more : List ℕ
-    pub told : IfSome (line_of (Misuse NoCommand)) (λ line. Tells (line ++ more) err err')
+    pub reported : IfSome (line_of (Misuse NoCommand)) (λ line. Reports (line ++ more) err err')
     pub unread : stdin' ≡ stdin
 
   -- what the program results in that is asked for such a thing by these words
@@ -140,7 +145,7 @@ module _ {I : Type 0} (status : ℕ) (out out' : Option (List ℕ)) (err err' : 
   pub record EndsRefused (failure : Failure) : Type 0 where
     pub is_status : status ≡ status_of failure
     pub silent : Keeps out out'
-    pub told : IfSome (line_of failure) (λ line. Tells line err err')
+    pub reported : IfSome (line_of failure) (λ line. Reports line err err')
 
   -- what it results in with words on standard input, where these bytes are: they are words, and
   -- nothing is left there; or they are refused, for a fault of the bytes or of reading them

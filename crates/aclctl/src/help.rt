@@ -1,7 +1,7 @@
-//! What the program says of itself.
+//! The program's help and version.
 ghost use Rattle.std.specs.Prelude.{◌≡◌, ◌++◌, ℕ, IfSome, List};
 ghost use Rattle.acl_cli.specs.Commands.{Ends};
-ghost use Rattle.acl_cli.specs.ErrorOutput.{Tells};
+ghost use Rattle.acl_cli.specs.ErrorOutput.{Reports};
 ghost use Rattle.acl_cli.specs.Failures.{line_of, status_of};
 ghost use Rattle.acl_cli.specs.declared.failure.Failure.TheVariants as failure;
 ghost use Rattle.acl_cli.specs.declared.misuse.Misuse.TheVariants.{NoCommand};
@@ -12,42 +12,43 @@ use acl_cli::{ErrorOutput, Failure, Misuse, RunFault, write_text};
 use std::alloc::Global;
 use std::io::{Read, Write};
 
-/// What tells a person how to go on.
+/// The program's help.
 pub const HELP: &str = "usage: aclctl COMMAND [OPTION].. [WORD]..
 
 commands:
-  who        tells who may do what with each file of a listing
-  why        tells why a user may do something with a file of a listing, or not
-  impact     tells who gains or loses what between two listings
-  restore    prints what brings back the lists of files as a listing had them
+  who        reports who may do what with each file of a listing
+  why        reports why a user may access a file of a listing, or why not
+  impact     reports who gains or loses access between two listings
+  restore    prints what setfacl needs to restore the lists of an earlier listing
   translate  prints a listing with an NFSv4 list for each file
-  next       prints a listing, and what a user's next file in each folder would be
-  decide     tells whether an access control list grants a request
-  explain    tells why it does: which entries decide
-  compare    tells whether anybody gains or loses access between two lists
+  next       prints a listing with the file that a user would create in each folder
+  decide     reports whether an access control list grants a request
+  explain    reports which entries of the list decide that
+  compare    reports whether anybody gains or loses access between two lists
   run        lets sessions work on one tree at the same time, and prints their answers
-  list       prints a tree as a listing, which the other commands read
+  list       prints a tree as a listing that the other commands read
+  accounts   prints the users and groups of a setup, as getent prints a host's
   dump       prints a tree as a session that makes it again
-  lint       tells what is wrong with a setup or with sessions, and where
-  help       prints this, and help COMMAND the options of a command
+  lint       reports what is wrong with a listing, a setup or sessions, and where
+  help       prints this; help COMMAND prints the options of a command
   --version  prints the version
 
-COMMAND --help tells the options of a command, too. Without any words, they are
-read from standard input, one a line, the command first.
+COMMAND --help prints the options of a command, too. Without any words, aclctl
+reads them from standard input, one a line, the command first.
 
-A listing is what getfacl -R prints; who there is, this host's accounts say:
+A listing is what getfacl -R prints; users and groups are those of this host:
   getfacl -Rn /srv/share | aclctl who --reach --perms w -
-A list by itself is asked about by ids, in decimal:
+decide, explain and compare take a list by itself, and decimal ids:
   aclctl decide --owner 1000 --group 50 --uid 1001 --gids 50,60 --perms r u::rw,g::r,o::-
 
 Exit status: 0 with an answer (granted or denied, alike or differ, a run's
 outputs), 1 if something is malformed or can't be read, 2 if the words are
-wrong, 3 if memory or a thread is lacking or the output can't be written, 4 if
-there is an answer, but not about every file of a listing, and 5 if there is a
-difference and --exit-code.
+wrong, 3 if there is no memory or thread left or the output can't be written,
+4 if some files of a listing can't be evaluated, and 5 with --exit-code if there
+is something to report.
 ";
 
-/// The most bytes of a word that is shown.
+/// How many bytes of a word are shown.
 const MAX_SHOWN: usize = 64;
 
 const VERSION: &str = "aclctl 0.1.0\n";
@@ -66,13 +67,13 @@ fn print<I: Read, W: Write, E: Write + Drop>(
         Ok(()) => 0,
         Err(_) => {
             let failure = Failure::Lacks(RunFault::Output);
-            failure.tell(err);
+            failure.report(err);
             failure.status()
         }
     }
 }
 
-/// Prints what the program's commands are.
+/// Prints the program's help, and returns the exit status.
 #[tactic(auto, unfolding(crate::specs::HelpText::help_text))]
 pub fn print_help<I: Read, W: Write, E: Write + Drop>(
     input: &mut I,
@@ -85,7 +86,7 @@ pub fn print_help<I: Read, W: Write, E: Write + Drop>(
     print(HELP, input, out, err)
 }
 
-/// Prints the program's name and its version.
+/// Prints the program's name and version, and returns the exit status.
 pub fn print_version<I: Read, W: Write, E: Write + Drop>(
     input: &mut I,
     out: &mut W,
@@ -97,18 +98,19 @@ pub fn print_version<I: Read, W: Write, E: Write + Drop>(
     print(VERSION, input, out, err)
 }
 
-/// Tells that no command was named, by the word if there is a short one, and which commands there
-/// are. It returns the exit status; a fault while writing doesn't change it.
+/// Reports that no command was named, with the word if it is short, and prints the help on standard
+/// error. Returns the exit status, also if standard error can't be written.
 pub fn report_no_command<E: Write + Drop>(
     alloc: Global,
     word: Option<&str>,
     err: &mut ErrorOutput<E>,
 ) -> u8
     ensures status { result ≡ status_of (failure.Misuse NoCommand) }
-    ensures told { (more : List ℕ)
-        × IfSome (line_of (failure.Misuse NoCommand)) (λ line. Tells (line ++ more) err.old err.new) }
+    ensures reported { (more : List ℕ)
+        × IfSome (line_of (failure.Misuse NoCommand)) (λ line. Reports (line
+        ++ more) err.old err.new) }
 {
-    Failure::Misuse(Misuse::NoCommand).tell(err);
+    Failure::Misuse(Misuse::NoCommand).report(err);
     let named = named_by(alloc, word).unwrap_or(String::new(alloc));
     err.write_text(named.as_bytes());
     err.write_text(b"\n");
@@ -116,7 +118,7 @@ pub fn report_no_command<E: Write + Drop>(
     Failure::Misuse(Misuse::NoCommand).status()
 }
 
-/// What is said of a short word that names no command. None if memory runs out.
+/// The line about a word that names no command. `None` if the word is long, or memory runs out.
 fn named_by(alloc: Global, word: Option<&str>) -> Option<String> {
     match word {
         Some(word) if word.len() <= MAX_SHOWN => {

@@ -1,4 +1,4 @@
-//! The help of a command, where it alone is asked for.
+//! The help of a command.
 
 use acl_cli::{
     Command as CliCommand, CommandLine, Ending, ErrorOutput, Failure, Line, Misuse, OpenFiles,
@@ -7,8 +7,8 @@ use clap::ArgMatches;
 use std::alloc::Global;
 use std::io::{Read, Write};
 
-/// A command of which help is asked for. Its line is the command's, and help is an answer, on
-/// standard output and with status 0, whatever it is to the command itself.
+/// A command that only prints another's help. It has that command's line, and its help is an
+/// answer, with status 0 on standard output, even if it isn't for the command itself.
 #[derive(Clone, Copy)]
 pub struct HelpOf<'c, C: CommandLine> {
     pub command: &'c C,
@@ -38,7 +38,7 @@ impl<'c, C: CommandLine> CliCommand for HelpOf<'c, C> {
         true
     }
 
-    /// Words that ask for no help have no answer.
+    /// Words that don't ask for help have no answer.
     fn answer<'a, F: OpenFiles, I: Read, W: Write, E: Write + Drop>(
         &self,
         _alloc: Global,

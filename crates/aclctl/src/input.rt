@@ -1,4 +1,4 @@
-//! The words of the program: those that it is given, or else those of standard input.
+//! The words of the program: its arguments, or else those on standard input.
 ghost use Rattle.std.specs.Prelude.{◌≡◌, ◌≢◌, [], map, IfErr, IfOk, IfSome, IsOkAnd, Some};
 ghost use Rattle.std.specs.String.{string_bytes};
 ghost use Rattle.aclctl.specs.Input.{AreWordsOf, IsInputFailure};
@@ -12,7 +12,7 @@ const MAX_BYTES: usize = 65_536;
 
 /// The words of the reader, one a line.
 fn read_words<'n, R: Read>(alloc: Global, reader: &mut R) -> Result<Vec<String>, Failure<'n>>
-    // Of a reader that tells its bytes.
+    // Of a reader that reports its bytes.
     ensures read { IfOk result (λ words. IfSome (R.remaining reader.old)
         (λ bytes. AreWordsOf bytes (map string_bytes words.items)
         × (R.remaining reader.new ≡ Some []))) }
@@ -31,7 +31,7 @@ fn read_words<'n, R: Read>(alloc: Global, reader: &mut R) -> Result<Vec<String>,
     }
 }
 
-/// The words given, or if there are none those that the reader has, one a line.
+/// The words given, or, if there are none, those that the reader has, one a line.
 pub fn command_words<'n, R: Read>(
     alloc: Global,
     given: Vec<String>,
@@ -40,7 +40,7 @@ pub fn command_words<'n, R: Read>(
     ensures given { given.items ≢ [] → IsOkAnd result (λ words. words.items ≡ given.items) }
     ensures untouched { given.items ≢ [] → reader.new ≡ reader.old }
 
-    // Of a reader that tells its bytes.
+    // Of a reader that reports its bytes.
     ensures read { given.items ≡ [] → IfOk result (λ words. IfSome (R.remaining reader.old)
         (λ bytes. AreWordsOf bytes (map string_bytes words.items)
         × (R.remaining reader.new ≡ Some []))) }

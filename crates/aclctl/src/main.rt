@@ -4,6 +4,7 @@
 mod help;
 mod help_of;
 mod input;
+mod lint;
 mod named;
 mod output;
 mod program;
@@ -29,7 +30,7 @@ impl<'a> OpenFiles for Disk<'a> {
 
     ghost bytes_of = { λ _ _. None };
 
-    /// A folder can be opened and not read, so it is reported here.
+    /// A folder can be opened but not read, so this reports it.
     fn open(&self, name: &str) -> io::Result<File> {
         let mut file = File::open(self.rt, name)?;
         file.read(&mut [])?;
@@ -37,7 +38,7 @@ impl<'a> OpenFiles for Disk<'a> {
     }
 }
 
-/// The words of the command line, without the program's name. One that is no text is a bad word.
+/// The words of the command line, without the program's name. Fails for a word that isn't UTF-8.
 fn given_words<'n>(rt: &HostRuntime) -> Result<Vec<String>, Failure<'n>> {
     match env::args(rt) {
         Ok(words) => Ok(words.skip(1).collect(rt.alloc())?),
@@ -68,7 +69,7 @@ fn main(rt: HostRuntime) -> ExitCode {
             &mut err,
         ),
         Err(failure) => {
-            failure.tell(&mut err);
+            failure.report(&mut err);
             failure.status()
         }
     };

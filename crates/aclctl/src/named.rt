@@ -4,7 +4,7 @@ ghost use Rattle.aclctl.specs.Names.{asked, help_about, name_of, named};
 
 use std::convert::AsStr;
 
-/// The commands, and what the program says of itself.
+/// The commands, and help and the version.
 #[derive(Clone, Copy, Debug, PartialEq, Eq)]
 pub enum Named {
     Decide,
@@ -18,6 +18,7 @@ pub enum Named {
     Translate,
     Next,
     List,
+    Accounts,
     Dump,
     Lint,
     Help,
@@ -25,7 +26,7 @@ pub enum Named {
 }
 
 impl Named {
-    /// The command of this name, if there is one.
+    /// The command with this name; `None` for other words.
     pub fn of(word: &str) -> Option<Named>
         ensures { result ≡ named word.now }
     {
@@ -41,6 +42,7 @@ impl Named {
             "translate" => Some(Named::Translate),
             "next" => Some(Named::Next),
             "list" => Some(Named::List),
+            "accounts" => Some(Named::Accounts),
             "dump" => Some(Named::Dump),
             "lint" => Some(Named::Lint),
             "help" | "--help" | "-h" => Some(Named::Help),
@@ -65,6 +67,7 @@ impl Named {
             Named::Translate => "translate",
             Named::Next => "next",
             Named::List => "list",
+            Named::Accounts => "accounts",
             Named::Dump => "dump",
             Named::Lint => "lint",
             Named::Help => "--help",
@@ -79,12 +82,12 @@ pub enum Asked {
     Command(Named),
     /// The help of a command.
     HelpOf(Named),
-    /// No command has the name that they begin with, or there is no word.
+    /// There is no word, or the first isn't a command's name.
     Nothing,
 }
 
 impl Asked {
-    /// What `help` with these words behind it asks for.
+    /// What `help` followed by these words asks for.
     fn help_about<S: AsStr>(words: &[S]) -> Asked
         ensures { result ≡ help_about (map S.text words.now) }
     {
@@ -97,7 +100,7 @@ impl Asked {
         }
     }
 
-    /// What the words ask for. The first is the name of a command, or `help` with a name behind it.
+    /// What the words ask for: the first is the name of a command, or `help` with a name after it.
     pub fn of<S: AsStr>(words: &[S]) -> Asked
         ensures { result ≡ asked (map S.text words.now) }
     {

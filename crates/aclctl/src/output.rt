@@ -1,9 +1,9 @@
-//! Where answers and faults go, if the reader of an answer may leave.
+//! Standard output and standard error, if the reader of an answer may leave.
 
 use std::cell::Cell;
 use std::io::{self, Write};
 
-/// Standard output. It notes whether its reader is gone, as `head` is once it has its lines.
+/// Standard output. It notes whether its reader has left, as `head` does once it has its lines.
 #[derive(Drop)]
 pub struct Output<'a, W: Write + Drop> {
     pub is_left: &'a Cell<bool>,
@@ -28,8 +28,8 @@ impl<'a, W: Write + Drop> Write for Output<'a, W> {
     }
 }
 
-/// Standard error, which says nothing any more once the reader of the answer is gone: whoever reads
-/// a few lines has all that was wanted. No contract says what goes there.
+/// Standard error, on which nothing is printed any more after the reader of the answer has left:
+/// who reads only a few lines has all that was wanted. No contract says what is printed.
 #[derive(Drop)]
 pub struct Faults<'a, W: Write + Drop> {
     pub is_left: &'a Cell<bool>,

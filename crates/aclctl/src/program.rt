@@ -8,17 +8,18 @@ ghost use Rattle.aclctl.specs.declared.named.Asked.TheVariants as asked;
 use crate::help::{print_help, print_version, report_no_command};
 use crate::help_of::HelpOf;
 use crate::input::command_words;
+use crate::lint::run_lint;
 use crate::named::{Asked, Named};
 use acl_cli::{CommandLine, ErrorOutput, OpenFiles};
-use acl_lint::Lint;
 use acl_listing_changes::Restore;
 use acl_listing_creation::Next;
+use acl_listing_lint::LintListing;
 use acl_listing_queries::{Who, Why};
 use acl_listing_reach::Impact;
 use acl_listing_translation::Translate;
 use acl_queries::{Compare, Decide, Explain};
 use acl_service::RunLine;
-use acl_tree_queries::{Dump, List};
+use acl_tree_queries::{Accounts, Dump, List};
 use std::alloc::Global;
 use std::convert::AsStr;
 use std::io::{Read, Write};
@@ -26,7 +27,7 @@ use std::sync::Wait;
 use std::thread::Threads;
 use std::time::Clock;
 
-/// Runs this command with these words, its name first.
+/// Runs this command with these words, the first of which is its name.
 fn run_named<R, F, S, I, W, E>(
     rt: &R,
     alloc: Global,
@@ -60,14 +61,15 @@ where
         Named::Translate => acl_cli::run_command(&Translate, alloc, files, words, input, out, err),
         Named::Next => acl_cli::run_command(&Next, alloc, files, words, input, out, err),
         Named::List => acl_cli::run_command(&List, alloc, files, words, input, out, err),
+        Named::Accounts => acl_cli::run_command(&Accounts, alloc, files, words, input, out, err),
         Named::Dump => acl_cli::run_command(&Dump, alloc, files, words, input, out, err),
-        Named::Lint => acl_cli::run_command(&Lint, alloc, files, words, input, out, err),
+        Named::Lint => run_lint(alloc, files, words, input, out, err),
         Named::Help => print_help(input, out, err),
         Named::Version => print_version(input, out, err),
     }
 }
 
-/// Prints the help of a command that has this line.
+/// Prints the help of the command with this line.
 fn print_help_by<C, F, I, W, E>(
     line: &C,
     alloc: Global,
@@ -120,13 +122,14 @@ where
         Named::Translate => print_help_by(&Translate, alloc, name, files, input, out, err),
         Named::Next => print_help_by(&Next, alloc, name, files, input, out, err),
         Named::List => print_help_by(&List, alloc, name, files, input, out, err),
+        Named::Accounts => print_help_by(&Accounts, alloc, name, files, input, out, err),
         Named::Dump => print_help_by(&Dump, alloc, name, files, input, out, err),
-        Named::Lint => print_help_by(&Lint, alloc, name, files, input, out, err),
+        Named::Lint => print_help_by(&LintListing, alloc, name, files, input, out, err),
         Named::Help | Named::Version => print_help(input, out, err),
     }
 }
 
-/// The word that names no command: the one behind `help`, or else the first.
+/// The word that isn't a command's name: the one after `help`, or else the first.
 fn unnamed<S: AsStr>(words: &[S]) -> Option<&str> {
     let Some((first, more)) = words.split_first() else {
         return None;
@@ -140,11 +143,11 @@ fn unnamed<S: AsStr>(words: &[S]) -> Option<&str> {
 }
 
 /// Runs the command that the first word names (`decide`, `explain`, `compare`, `run`, `who`, `why`,
-/// `impact`, `restore`, `translate`, `next`, `list`, `dump`, `lint`), or prints the version
-/// (`--version`) or help (`help`, `--help`, `-h`; `help` with the name of a command prints that
-/// command's). It returns the exit status: that of the command; 2 if the first word names none, and
-/// the commands go to `err`. At 3 (out of memory, a thread refused, a write failed, or the run
-/// stopped) nothing or a front of the output went out.
+/// `impact`, `restore`, `translate`, `next`, `list`, `accounts`, `dump`, `lint`), or prints the
+/// version (`--version`) or help (`help`, `--help`, `-h`; `help` with the name of a command prints
+/// that command's). Returns the exit status: the command's; or 2 if the first word isn't a
+/// command's name, and then help goes to `err`. With 3 (out of memory, a thread refused, a write
+/// failed, or the run stopped) nothing or a prefix of the output was written.
 pub fn run_command<R, F, S, I, W, E>(
     rt: &R,
     alloc: Global,
@@ -171,9 +174,9 @@ where
     }
 }
 
-/// Runs the command of the words given, or if there are none of those that the reader has, and
-/// returns the exit status. Of words that are given only those that name the reader as a session
-/// let it be read.
+/// Runs the command of the words given, or, if there are none, of those that the reader has, and
+/// returns the exit status. With words given, the reader is only read if they name it as a session
+/// or a listing.
 pub fn run<R, F, I, W, E>(
     rt: &R,
     alloc: Global,
@@ -201,7 +204,7 @@ where
     match command_words(alloc, given, reader) {
         Ok(words) => run_command(rt, alloc, files, words.as_slice(), reader, out, err),
         Err(failure) => {
-            failure.tell(err);
+            failure.report(err);
             failure.status()
         }
     }

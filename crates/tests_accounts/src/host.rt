@@ -88,7 +88,7 @@ staff:x:50:alice, bob
 tail:x:12:bob,\r
 ";
 
-/// What `id -G` of glibc tells of them.
+/// What `id -G` of glibc reports for them.
 const SPACED_USERS: [Row; 2] = [
     ("alice", 1001, &[100, 50]),
     ("bob", 1002, &[100, 50, 10, 11, 12]),

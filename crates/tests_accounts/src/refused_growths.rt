@@ -26,7 +26,7 @@ fn accounts_under_a_refused_growth(rt: HostRuntime) -> Result<(), Fail> {
     let mut refusals = Refusals::new();
     let counts = refusals.again(|| counts_of(alloc));
     assert_eq!(rt; counts, Some((4, 5)));
-    println!(rt; "refusals: {}", refusals.told())?;
+    println!(rt; "refusals: {}", refusals.reported())?;
     Ok(())
 }
 
@@ -48,6 +48,6 @@ fn names_under_a_refused_growth(rt: HostRuntime) -> Result<(), Fail> {
     let mut refusals = Refusals::new();
     let same = refusals.again(|| reads_and_prints(alloc));
     assert_eq!(rt; same, Some(true));
-    println!(rt; "refusals: {}", refusals.told())?;
+    println!(rt; "refusals: {}", refusals.reported())?;
     Ok(())
 }

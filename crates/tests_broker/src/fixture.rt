@@ -15,7 +15,7 @@ pub(super) struct Last {
     pub(super) request: u16,
 }
 
-/// A reply tells its place: the request, and the one that was applied before it.
+/// A reply reports its place: the request, and the one that was applied before it.
 #[derive(Drop, Clone, Copy, Debug, PartialEq, Eq)]
 pub(super) struct Follows {
     pub(super) before: u16,

@@ -1,4 +1,4 @@
-//! Tests of the broker: worked examples, over a small service whose replies tell the order of its
+//! Tests of the broker: worked examples, over a small service whose replies report the order of its
 //! requests.
 //!
 //! They stand in a crate of their own, as callers of the public surface: what is tested is what any

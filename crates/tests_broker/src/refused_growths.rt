@@ -18,12 +18,12 @@ const ITEMS: u16 = 20;
 
 /// A broker, at the second attempt if the first is refused. The refused call gives the service
 /// back.
-fn open_again(alloc: Global, told: &mut Refusals) -> Result<Broker<Last>, Fail> {
+fn open_again(alloc: Global, reported: &mut Refusals) -> Result<Broker<Last>, Fail> {
     let service = match Broker::open(alloc, 1, Last { request: OPENING }) {
         Ok(broker) => return Ok(broker),
         Err(service) => service,
     };
-    told.one_more();
+    reported.one_more();
     if service.request != OPENING {
         return Err("another service came back".into());
     }
@@ -54,19 +54,19 @@ fn stands_before(broker: &Broker<Last>, place: u16) -> bool {
 
 #[test]
 fn open_under_a_refused_growth(rt: HostRuntime) -> Result<(), Fail> {
-    let mut told = Refusals::new();
-    let broker = open_again(rt.alloc(), &mut told)?;
+    let mut reported = Refusals::new();
+    let broker = open_again(rt.alloc(), &mut reported)?;
     assert!(rt; stands_before(&broker, 0));
-    println!(rt; "refusals: {}", told.told())?;
+    println!(rt; "refusals: {}", reported.reported())?;
     Ok(())
 }
 
 /// Whether the item of a place is taken, at the second attempt if the first is refused, which
 /// changes nothing.
-fn takes(broker: &mut Broker<Last>, told: &mut Refusals, place: u16) -> bool {
+fn takes(broker: &mut Broker<Last>, reported: &mut Refusals, place: u16) -> bool {
     let mut taken = broker.take(0);
     if taken == Err(TakeRefused::Memory) {
-        told.one_more();
+        reported.one_more();
         if !stands_before(broker, place) {
             return false;
         }
@@ -84,9 +84,9 @@ fn submits_all(broker: &mut Broker<Last>) -> bool {
     true
 }
 
-fn takes_all(broker: &mut Broker<Last>, told: &mut Refusals) -> bool {
+fn takes_all(broker: &mut Broker<Last>, reported: &mut Refusals) -> bool {
     for place in 0..ITEMS {
-        if !takes(broker, told, place) {
+        if !takes(broker, reported, place) {
             return false;
         }
     }
@@ -104,12 +104,12 @@ fn answers_all(broker: &mut Broker<Last>) -> bool {
 
 #[test]
 fn take_under_a_refused_growth(rt: HostRuntime) -> Result<(), Fail> {
-    let mut told = Refusals::new();
-    let mut broker = open_again(rt.alloc(), &mut told)?;
+    let mut reported = Refusals::new();
+    let mut broker = open_again(rt.alloc(), &mut reported)?;
     assert!(rt; submits_all(&mut broker));
-    assert!(rt; takes_all(&mut broker, &mut told));
+    assert!(rt; takes_all(&mut broker, &mut reported));
     assert!(rt; answers_all(&mut broker));
-    println!(rt; "refusals: {}", told.told())?;
+    println!(rt; "refusals: {}", reported.reported())?;
     Ok(())
 }
 
@@ -119,10 +119,10 @@ fn has_taken(taker: &Taker<Last>, count: u16) -> bool {
 }
 
 /// The same as of a broker.
-fn half_takes(halves: &mut Halves, told: &mut Refusals, place: u16) -> bool {
+fn half_takes(halves: &mut Halves, reported: &mut Refusals, place: u16) -> bool {
     let mut taken = halves.take();
     if taken == Err(TakeRefused::Memory) {
-        told.one_more();
+        reported.one_more();
         if !has_taken(&halves.taker, place) {
             return false;
         }
@@ -140,9 +140,9 @@ fn half_submits_all(halves: &mut Halves) -> bool {
     true
 }
 
-fn half_takes_all(halves: &mut Halves, told: &mut Refusals) -> bool {
+fn half_takes_all(halves: &mut Halves, reported: &mut Refusals) -> bool {
     for place in 0..ITEMS {
-        if !half_takes(halves, told, place) {
+        if !half_takes(halves, reported, place) {
             return false;
         }
     }
@@ -160,21 +160,21 @@ fn half_answers_all(halves: &mut Halves) -> bool {
 
 #[test]
 fn taker_under_a_refused_growth(rt: HostRuntime) -> Result<(), Fail> {
-    let mut told = Refusals::new();
-    let mut halves = Halves::split(open_again(rt.alloc(), &mut told)?)?;
+    let mut reported = Refusals::new();
+    let mut halves = Halves::split(open_again(rt.alloc(), &mut reported)?)?;
     assert!(rt; half_submits_all(&mut halves));
-    assert!(rt; half_takes_all(&mut halves, &mut told));
+    assert!(rt; half_takes_all(&mut halves, &mut reported));
     assert!(rt; half_answers_all(&mut halves));
-    println!(rt; "refusals: {}", told.told())?;
+    println!(rt; "refusals: {}", reported.reported())?;
     Ok(())
 }
 
 /// A submit and a take of each item, and then an answer of each, in room that is asked for twice if
 /// need be.
-fn steps_of_all_items(alloc: Global, told: &mut Refusals) -> Result<Vec<Step<u16>>, Fail> {
+fn steps_of_all_items(alloc: Global, reported: &mut Refusals) -> Result<Vec<Step<u16>>, Fail> {
     let mut steps = Vec::new(alloc);
     if steps.reserve(3 * ITEMS as usize).is_err() {
-        told.one_more();
+        reported.one_more();
         steps.reserve(3 * ITEMS as usize)?;
     }
     for item in 1..ITEMS + 1 {
@@ -189,7 +189,7 @@ fn steps_of_all_items(alloc: Global, told: &mut Refusals) -> Result<Vec<Step<u16
 
 /// Whether the step table gives these results, one by one, with `Memory` for a take here and there,
 /// which is reported.
-fn are_by_the_table(results: &[StepResult<u16, Follows>], told: &mut Refusals) -> bool {
+fn are_by_the_table(results: &[StepResult<u16, Follows>], reported: &mut Refusals) -> bool {
     let mut taken = 0_u16;
     let mut answered = 0_u16;
     for step in results {
@@ -209,7 +209,7 @@ fn are_by_the_table(results: &[StepResult<u16, Follows>], told: &mut Refusals) -
                 if *refused != TakeRefused::Memory {
                     return false;
                 }
-                told.one_more();
+                reported.one_more();
             }
             StepResult::Answered(answer) => {
                 if answered < taken {
@@ -233,13 +233,13 @@ fn run_again(
     alloc: Global,
     broker: &mut Broker<Last>,
     steps: Vec<Step<u16>>,
-    told: &mut Refusals,
+    reported: &mut Refusals,
 ) -> Option<Vec<StepResult<u16, Follows>>> {
     let steps = match broker.run_steps(alloc, steps) {
         Ok(results) => return Some(results),
         Err(steps) => steps,
     };
-    told.one_more();
+    reported.one_more();
     if steps.len() != 3 * ITEMS as usize || !stands_before(broker, 0) {
         return None;
     }
@@ -250,12 +250,12 @@ fn run_again(
 fn steps_go_so(
     alloc: Global,
     broker: &mut Broker<Last>,
-    told: &mut Refusals,
+    reported: &mut Refusals,
 ) -> Result<bool, Fail> {
-    let steps = steps_of_all_items(alloc, told)?;
-    match run_again(alloc, broker, steps, told) {
+    let steps = steps_of_all_items(alloc, reported)?;
+    match run_again(alloc, broker, steps, reported) {
         Some(results) => Ok(
-            results.len() == 3 * ITEMS as usize && are_by_the_table(results.as_slice(), told),
+            results.len() == 3 * ITEMS as usize && are_by_the_table(results.as_slice(), reported),
         ),
         None => Ok(false),
     }
@@ -263,9 +263,9 @@ fn steps_go_so(
 
 #[test]
 fn run_steps_under_a_refused_growth(rt: HostRuntime) -> Result<(), Fail> {
-    let mut told = Refusals::new();
-    let mut broker = open_again(rt.alloc(), &mut told)?;
-    assert!(rt; steps_go_so(rt.alloc(), &mut broker, &mut told)?);
-    println!(rt; "refusals: {}", told.told())?;
+    let mut reported = Refusals::new();
+    let mut broker = open_again(rt.alloc(), &mut reported)?;
+    assert!(rt; steps_go_so(rt.alloc(), &mut broker, &mut reported)?);
+    println!(rt; "refusals: {}", reported.reported())?;
     Ok(())
 }

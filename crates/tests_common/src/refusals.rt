@@ -3,18 +3,18 @@
 /// How many failures a test saw.
 #[derive(Clone, Copy)]
 pub struct Refusals {
-    told: u32,
+    reported: u32,
 }
 
 impl Refusals {
     /// None yet.
     pub fn new() -> Refusals {
-        Refusals { told: 0 }
+        Refusals { reported: 0 }
     }
 
     /// One more.
     pub fn one_more(&mut self) {
-        self.told = self.told.saturating_add(1);
+        self.reported = self.reported.saturating_add(1);
     }
 
     /// What the attempt gives, at the second one if the first is refused, which counts as one more.
@@ -31,7 +31,7 @@ impl Refusals {
     }
 
     /// How many there were.
-    pub fn told(&self) -> u32 {
-        self.told
+    pub fn reported(&self) -> u32 {
+        self.reported
     }
 }

@@ -104,11 +104,11 @@ fn ids_in_decimal(rt: HostRuntime) {
         ),
     ];
     for (own, wanted) in ROWS {
-        let told = short_texts(rt.alloc(), own);
-        let is_told = match told {
+        let reported = short_texts(rt.alloc(), own);
+        let is_reported = match reported {
             Some(text) => text.as_slice() == wanted.as_bytes(),
             None => false,
         };
-        assert!(rt; is_told, "{wanted}");
+        assert!(rt; is_reported, "{wanted}");
     }
 }

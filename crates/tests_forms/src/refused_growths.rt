@@ -1,7 +1,7 @@
 //! Calls that may run out of memory: one failed allocation, wherever it falls, is reported by the
 //! call in which it falls, leaves everything as it was, and the call may be made again.
 //!
-//! scripts/refused-growths fails one allocation of a test after the other. Each test here passes
+//! tests/refused-growths fails one allocation of a test after the other. Each test here passes
 //! whichever allocation that is, and prints how many failures it saw.
 use acl_forms::{Places, print_entries, read_entries};
 use acl_names::Directory;
@@ -34,7 +34,7 @@ fn read_entries_under_a_refused_growth(rt: HostRuntime) -> Result<(), Fail> {
     let alloc = rt.alloc();
     let mut refusals = Refusals::new();
     assert_eq!(rt; count_of(alloc, &mut refusals), Some(17));
-    println!(rt; "refusals: {}", refusals.told())?;
+    println!(rt; "refusals: {}", refusals.reported())?;
     Ok(())
 }
 
@@ -69,6 +69,6 @@ fn print_entries_under_a_refused_growth(rt: HostRuntime) -> Result<(), Fail> {
     let alloc = rt.alloc();
     let mut refusals = Refusals::new();
     assert_eq!(rt; is_printed(alloc, &mut refusals), Some(true));
-    println!(rt; "refusals: {}", refusals.told())?;
+    println!(rt; "refusals: {}", refusals.reported())?;
     Ok(())
 }

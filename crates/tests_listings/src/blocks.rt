@@ -1,6 +1,6 @@
 //! How a listing is cut into blocks, whichever way its bytes come.
 use crate::readers::{Broken, Slow};
-use crate::told::{is_text, tells, told_by};
+use crate::reported::{is_text, reported_by, reports};
 use acl_listings::{Blocks, ReadFault};
 use std::alloc::Global;
 use std::io::Read;
@@ -57,10 +57,10 @@ fn at_empty_lines(rt: HostRuntime) -> Result<(), Fail> {
 fn a_read_that_fails(rt: HostRuntime) -> Result<(), Fail> {
     let alloc = rt.alloc();
     // What was read as a whole before is handed out.
-    let told = cut(alloc, Broken::new(b"a\n\nb\n\nc\n"));
-    assert!(rt; is_text(told, b"1:a|3:b|!"));
-    let told = cut(alloc, Broken::new(b""));
-    assert!(rt; is_text(told, b"!"));
+    let reported = cut(alloc, Broken::new(b"a\n\nb\n\nc\n"));
+    assert!(rt; is_text(reported, b"1:a|3:b|!"));
+    let reported = cut(alloc, Broken::new(b""));
+    assert!(rt; is_text(reported, b"!"));
     Ok(())
 }
 
@@ -94,13 +94,13 @@ u::r,g::w,o::x
 # group: 1
 u::x,g::w,o::r";
 
-const TWO_TELL: &[u8] = b"1 x 0 0 u::r--,g::-w-,o::--x\n6 y 1 1 u::--x,g::-w-,o::r--\n";
+const TWO_REPORT: &[u8] = b"1 x 0 0 u::r--,g::-w-,o::--x\n6 y 1 1 u::--x,g::-w-,o::r--\n";
 
 #[test]
 fn byte_by_byte(rt: HostRuntime) -> Result<(), Fail> {
     let alloc = rt.alloc();
-    assert!(rt; tells(alloc, TWO, TWO_TELL));
-    assert!(rt; is_text(told_by(alloc, Slow::new(TWO)), TWO_TELL));
+    assert!(rt; reports(alloc, TWO, TWO_REPORT));
+    assert!(rt; is_text(reported_by(alloc, Slow::new(TWO)), TWO_REPORT));
     Ok(())
 }
 
@@ -108,8 +108,8 @@ fn byte_by_byte(rt: HostRuntime) -> Result<(), Fail> {
 fn by_reference(rt: HostRuntime) -> Result<(), Fail> {
     let alloc = rt.alloc();
     let mut reader = Slow::new(TWO);
-    assert!(rt; is_text(told_by(alloc, &mut reader), TWO_TELL));
+    assert!(rt; is_text(reported_by(alloc, &mut reader), TWO_REPORT));
     // The reader is at its end.
-    assert!(rt; is_text(told_by(alloc, &mut reader), b""));
+    assert!(rt; is_text(reported_by(alloc, &mut reader), b""));
     Ok(())
 }

@@ -21,8 +21,8 @@ mod readers;
 #[cfg(test)]
 mod refused_growths;
 #[cfg(test)]
+mod reported;
+#[cfg(test)]
 mod shown;
 #[cfg(test)]
 mod sizes;
-#[cfg(test)]
-mod told;

@@ -111,8 +111,8 @@ fn lists(rt: HostRuntime) {
     }
 }
 
-/// Whether a fault is reported of a block's first line.
-fn is_told_of_the_first(alloc: Global, fault: BlockFault) -> bool {
+/// Whether a fault is reported for a block's first line.
+fn is_reported_of_the_first(alloc: Global, fault: BlockFault) -> bool {
     let Some(names) = directory(alloc) else {
         return false;
     };
@@ -120,7 +120,7 @@ fn is_told_of_the_first(alloc: Global, fault: BlockFault) -> bool {
     found.0 == 0 && found.1 == b"# file: x".as_slice()
 }
 
-/// What isn't found by the block's own text is reported of its first line.
+/// What isn't found by the block's own text is reported for its first line.
 #[test]
 fn whole_blocks(rt: HostRuntime) {
     const FAULTS: [BlockFault; 3] = [
@@ -129,6 +129,6 @@ fn whole_blocks(rt: HostRuntime) {
         BlockFault::UnknownWay,
     ];
     for fault in FAULTS {
-        assert!(rt; is_told_of_the_first(rt.alloc(), fault));
+        assert!(rt; is_reported_of_the_first(rt.alloc(), fault));
     }
 }

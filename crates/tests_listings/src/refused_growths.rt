@@ -46,7 +46,7 @@ fn read_file_under_a_refused_growth(rt: HostRuntime) -> Result<(), Fail> {
     let mut refusals = Refusals::new();
     let count = refusals.again(|| count_of(alloc, LONG));
     assert_eq!(rt; count, Some(13));
-    println!(rt; "refusals: {}", refusals.told())?;
+    println!(rt; "refusals: {}", refusals.reported())?;
     Ok(())
 }
 
@@ -78,7 +78,7 @@ fn read_aces_under_a_refused_growth(rt: HostRuntime) -> Result<(), Fail> {
     let mut refusals = Refusals::new();
     let count = refusals.again(|| count_of(alloc, ACES));
     assert_eq!(rt; count, Some(17));
-    println!(rt; "refusals: {}", refusals.told())?;
+    println!(rt; "refusals: {}", refusals.reported())?;
     Ok(())
 }
 
@@ -104,7 +104,7 @@ fn blocks_under_a_refused_growth(rt: HostRuntime) -> Result<(), Fail> {
     let mut refusals = Refusals::new();
     let count = refusals.again(|| blocks_of(alloc));
     assert_eq!(rt; count, Some(1));
-    println!(rt; "refusals: {}", refusals.told())?;
+    println!(rt; "refusals: {}", refusals.reported())?;
     Ok(())
 }
 
@@ -126,6 +126,6 @@ fn push_shown_under_a_refused_growth(rt: HostRuntime) -> Result<(), Fail> {
     let len = refusals.again(|| shown_of(alloc));
     // It has 42 bytes, of which 3 are newlines.
     assert_eq!(rt; len, Some(51));
-    println!(rt; "refusals: {}", refusals.told())?;
+    println!(rt; "refusals: {}", refusals.reported())?;
     Ok(())
 }

@@ -1,6 +1,6 @@
 //! Blocks as long as they may be, and longer.
 use crate::readers::Slow;
-use crate::told::{block_tells, is_text, tells, told_by};
+use crate::reported::{block_reports, is_text, reported_by, reports};
 use acl_listings::{BlockFault, Blocks, FileFault, Lists, path_of, read_file};
 use std::alloc::Global;
 use std::io::{self, Read};
@@ -26,10 +26,10 @@ fn listing_of(alloc: Global, len: usize, end: &[u8]) -> Option<Vec<u8>> {
     Some(listing)
 }
 
-/// Whether a listing with a block of so many bytes tells this.
-fn listing_tells(alloc: Global, len: usize, end: &[u8], wanted: &[u8]) -> bool {
+/// Whether a listing with a block of so many bytes reports this.
+fn listing_reports(alloc: Global, len: usize, end: &[u8], wanted: &[u8]) -> bool {
     match listing_of(alloc, len, end) {
-        Some(listing) => tells(alloc, &listing, wanted),
+        Some(listing) => reports(alloc, &listing, wanted),
         None => false,
     }
 }
@@ -40,13 +40,13 @@ fn just_long_enough_and_too_long(rt: HostRuntime) -> Result<(), Fail> {
     let read = b"1 fault bad-header -\n3 x 0 0 u::r--,g::-w-,o::--x\n";
     let refused = b"1 fault bad-header -\n3 fault too-long x\n";
     for end in [b"".as_slice(), b"\n", b"\n\n"] {
-        assert!(rt; listing_tells(alloc, 65_536, end, read));
-        assert!(rt; listing_tells(alloc, 65_537, end, refused));
-        assert!(rt; listing_tells(alloc, 65_538, end, refused));
-        assert!(rt; listing_tells(alloc, 131_071, end, refused));
-        assert!(rt; listing_tells(alloc, 131_072, end, refused));
-        assert!(rt; listing_tells(alloc, 131_073, end, refused));
-        assert!(rt; listing_tells(alloc, 400_000, end, refused));
+        assert!(rt; listing_reports(alloc, 65_536, end, read));
+        assert!(rt; listing_reports(alloc, 65_537, end, refused));
+        assert!(rt; listing_reports(alloc, 65_538, end, refused));
+        assert!(rt; listing_reports(alloc, 131_071, end, refused));
+        assert!(rt; listing_reports(alloc, 131_072, end, refused));
+        assert!(rt; listing_reports(alloc, 131_073, end, refused));
+        assert!(rt; listing_reports(alloc, 400_000, end, refused));
     }
     Ok(())
 }
@@ -60,15 +60,15 @@ fn what_follows_a_long_one(rt: HostRuntime) -> Result<(), Fail> {
 11 fault bad-header -
 14 y 0 0 u::r--,g::-w-,o::--x
 ";
-    assert!(rt; listing_tells(alloc, 65_537, end, wanted));
-    assert!(rt; listing_tells(alloc, 300_000, end, wanted));
+    assert!(rt; listing_reports(alloc, 65_537, end, wanted));
+    assert!(rt; listing_reports(alloc, 300_000, end, wanted));
     Ok(())
 }
 
-/// Whether a listing with a block of so many bytes tells this if it comes in small pieces.
-fn tells_slowly(alloc: Global, len: usize, wanted: &[u8]) -> bool {
+/// Whether a listing with a block of so many bytes reports this if it comes in small pieces.
+fn reports_slowly(alloc: Global, len: usize, wanted: &[u8]) -> bool {
     match listing_of(alloc, len, b"\n") {
-        Some(listing) => is_text(told_by(alloc, Slow::by(16, &listing)), wanted),
+        Some(listing) => is_text(reported_by(alloc, Slow::by(16, &listing)), wanted),
         None => false,
     }
 }
@@ -77,17 +77,17 @@ fn tells_slowly(alloc: Global, len: usize, wanted: &[u8]) -> bool {
 fn blocks_in_many_pieces(rt: HostRuntime) -> Result<(), Fail> {
     let alloc = rt.alloc();
     let read = b"1 fault bad-header -\n3 x 0 0 u::r--,g::-w-,o::--x\n";
-    assert!(rt; tells_slowly(alloc, 65_536, read));
+    assert!(rt; reports_slowly(alloc, 65_536, read));
     let refused = b"1 fault bad-header -\n3 fault too-long x\n";
-    assert!(rt; tells_slowly(alloc, 100_000, refused));
+    assert!(rt; reports_slowly(alloc, 100_000, refused));
     Ok(())
 }
 
 #[test]
 fn many_empty_lines(rt: HostRuntime) -> Result<(), Fail> {
     let lines = io::repeat(b'\n').take(2_000_000);
-    let told = told_by(rt.alloc(), lines.chain(b"a".as_slice()));
-    assert!(rt; is_text(told, b"2000001 fault bad-header -\n"));
+    let reported = reported_by(rt.alloc(), lines.chain(b"a".as_slice()));
+    assert!(rt; is_text(reported, b"2000001 fault bad-header -\n"));
     Ok(())
 }
 
@@ -104,7 +104,7 @@ fn a_long_first_line(rt: HostRuntime) -> Result<(), Fail> {
     // One byte more: none.
     line.insert(9, b'x')?;
     assert!(rt; path_of(&line).is_none());
-    assert!(rt; tells(alloc, &line, b"1 fault too-long -\n"));
+    assert!(rt; reports(alloc, &line, b"1 fault too-long -\n"));
     Ok(())
 }
 
@@ -154,7 +154,7 @@ fn entries_of(alloc: Global, count: u8) -> Option<usize> {
 /// Whether such a block has too many.
 fn has_too_many(alloc: Global, count: u8) -> Option<bool> {
     let block = with_entries(alloc, count)?;
-    Some(block_tells(alloc, &block, b"fault too-many x"))
+    Some(block_reports(alloc, &block, b"fault too-many x"))
 }
 
 #[test]

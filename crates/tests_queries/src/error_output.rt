@@ -35,10 +35,10 @@ fn nothing_goes_out_after_a_failed_write(rt: HostRuntime) {
 }
 
 /// The exit status where a lacking thread is reported to so much room, and whether a write failed.
-fn told_in(room: &mut [u8]) -> (u8, bool) {
+fn reported_in(room: &mut [u8]) -> (u8, bool) {
     let mut err = ErrorOutput::new(room);
     let failure = Failure::Lacks(RunFault::NoThread);
-    failure.tell(&mut err);
+    failure.report(&mut err);
     (failure.status(), err.has_failed())
 }
 
@@ -46,7 +46,7 @@ fn told_in(room: &mut [u8]) -> (u8, bool) {
 fn a_failed_write_changes_no_status(rt: HostRuntime) {
     let mut room = [0u8; 23];
     for (bytes, has_failed) in [(23, false), (22, true), (0, true)] {
-        assert_eq!(rt; told_in(&mut room[..bytes]), (3, has_failed));
+        assert_eq!(rt; reported_in(&mut room[..bytes]), (3, has_failed));
     }
     assert_eq!(rt; room.as_slice(), b"aclctl: run: no thread\n".as_slice());
 }

@@ -16,7 +16,7 @@ fn bob(alloc: Global, groups: &[u32]) -> Option<Requester> {
     Some(Requester::new(Uid::new(1001)?, gids))
 }
 
-/// What is reported of a POSIX list: its class, and of each entry that counts what it gives under
+/// What is reported for a POSIX list: its class, and of each entry that counts what it gives under
 /// the mask and what it lacks.
 type Explained = (Class, [(Perms, Perms); 2]);
 
@@ -26,16 +26,16 @@ fn posix(alloc: Global) -> Option<Explained> {
     let requester = bob(alloc, &[50, 60])?;
     let asked = Perms::READ | Perms::WRITE;
     let class = class_of(&list, owner, group, &requester);
-    let mut told = [(Perms::all(), Perms::all()); 2];
+    let mut reported = [(Perms::all(), Perms::all()); 2];
     let mut count = 0;
     for entry in list.entries() {
         if class.has(group, &requester, entry.tag) && count < 2 {
-            told[count] = (list.effective_perms(entry), lacks(&list, entry, asked));
+            reported[count] = (list.effective_perms(entry), lacks(&list, entry, asked));
             count += 1;
         }
     }
     if count == 2 && class.counts(group, &requester, Tag::Mask) {
-        Some((class, told))
+        Some((class, reported))
     } else {
         None
     }
@@ -57,7 +57,7 @@ fn speaker(alloc: Global, bit: Mask) -> Option<Option<usize>> {
 
 /// The places are counted from 0 here.
 #[test]
-fn the_first_speaker_is_told(rt: HostRuntime) {
+fn the_first_speaker_is_reported(rt: HostRuntime) {
     let rows = [
         (Mask::READ_DATA, Some(2)),
         (Mask::WRITE_DATA, Some(1)),

@@ -117,12 +117,12 @@ fn ending_of_status(
         None => false,
     };
     let line = faults.len().saturating_sub(fault_room);
-    let told = faults.get(..line);
+    let reported = faults.get(..line);
     if (status, fault_room, answered) == (0, 64, true) {
         Ending::Answered
-    } else if (status, room, told) == (3, 1024, Some(b"aclctl: run: memory\n".as_slice())) {
+    } else if (status, room, reported) == (3, 1024, Some(b"aclctl: run: memory\n".as_slice())) {
         Ending::Memory
-    } else if (status, room, told) == (3, 1024, Some(b"aclctl: run: no thread\n".as_slice())) {
+    } else if (status, room, reported) == (3, 1024, Some(b"aclctl: run: no thread\n".as_slice())) {
         Ending::Thread
     } else {
         Ending::Other

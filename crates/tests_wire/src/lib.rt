@@ -2,6 +2,8 @@
 #![tactic(auto)]
 
 #[cfg(test)]
+mod names;
+#[cfg(test)]
 mod nfs4;
 #[cfg(test)]
 mod posix;

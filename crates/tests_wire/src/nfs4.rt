@@ -3,9 +3,10 @@
 //! string has its length before it, and zeros up to a whole group of four bytes behind it.
 use acl_nfs4::Kind;
 use acl_wire::{
-    Decided, Making, Nfs4Error, Nfs4Fault, Purpose, RawAce, acl4_of_mode, acl4_of_xdr, mode_made,
-    put_xdr_raws, raws_allow, raws_created, raws_decide, raws_delete, raws_grant, raws_inherited,
-    raws_text, raws_with_mode, raws_xdr, read_raw_aces, write_raw_aces,
+    Decided, Making, Nfs4Error, Nfs4Fault, Purpose, RawAce, RawAsker, RawDifference, acl4_of_mode,
+    acl4_of_xdr, mode_made, put_xdr_raws, raws_allow, raws_created, raws_decide, raws_delete,
+    raws_difference, raws_fault, raws_grant, raws_inherited, raws_mode, raws_text, raws_with_mode,
+    raws_xdr, read_raw_aces, write_raw_aces,
 };
 use std::alloc::Global;
 
@@ -79,7 +80,7 @@ fn is_written(alloc: Global) -> Option<bool> {
 }
 
 /// Whether the entries are those of the text.
-fn is_told(alloc: Global) -> Option<bool> {
+fn is_reported(alloc: Global) -> Option<bool> {
     let text = raws_text(alloc, &RAWS).ok()?;
     Some(text.as_slice() == TEXT.as_bytes())
 }
@@ -88,7 +89,7 @@ fn is_told(alloc: Global) -> Option<bool> {
 fn a_list_in_bytes(rt: HostRuntime) {
     assert!(rt; is_read(rt.alloc()) == Some(true));
     assert!(rt; is_written(rt.alloc()) == Some(true));
-    assert!(rt; is_told(rt.alloc()) == Some(true));
+    assert!(rt; is_reported(rt.alloc()) == Some(true));
 }
 
 /// The owner, whose uid is 7, may read and write; nobody may execute.
@@ -265,11 +266,11 @@ fn who_may_delete(rt: HostRuntime) {
         (9, false, false),
     ];
     for (uid, sticky, wanted) in ROWS {
-        let told = raws_delete(sticky, &FOLDER, 7, 1, &MAY_BE_DELETED, 6, 1, uid, &[]);
-        assert_eq!(rt; told, Ok(wanted), "{uid} {sticky}");
+        let reported = raws_delete(sticky, &FOLDER, 7, 1, &MAY_BE_DELETED, 6, 1, uid, &[]);
+        assert_eq!(rt; reported, Ok(wanted), "{uid} {sticky}");
     }
-    let told = raws_delete(false, &FOLDER, 7, 1, &MAY_BE_DELETED, u32::MAX, 1, 8, &[]);
-    assert_eq!(rt; told, Err(Nfs4Fault::Argument));
+    let reported = raws_delete(false, &FOLDER, 7, 1, &MAY_BE_DELETED, u32::MAX, 1, 8, &[]);
+    assert_eq!(rt; reported, Err(Nfs4Fault::Argument));
 }
 
 /// How many entries what is made in the folder has, and the mode that it gets; no entries if it
@@ -335,6 +336,68 @@ fn is_changed(alloc: Global, raws: &[RawAce], how: u32, place: usize) -> Option<
 fn bits_that_a_mode_keeps(rt: HostRuntime) {
     assert_eq!(rt; is_changed(rt.alloc(), &[KEPT], 0, 2), Some((6, KEPT)));
     assert_eq!(rt; is_changed(rt.alloc(), &[KEPT], 1, 2), Some((5, KEPT)));
+}
+
+/// The rule 2 leaves what names somebody, though the mode's group may not write. It stands behind
+/// the owner's two, and in front of the group's.
+#[test]
+fn an_entry_that_a_mode_leaves(rt: HostRuntime) {
+    let writes = RawAce {
+        mask: 2,
+        id: 8,
+        ..NOTHING
+    };
+    assert_eq!(rt; is_changed(rt.alloc(), &[KEPT], 2, 2), Some((5, KEPT)));
+    assert_eq!(rt; is_changed(rt.alloc(), &[writes], 2, 2), Some((5, writes)));
+    assert_eq!(rt; is_changed(rt.alloc(), &[writes], 3, 2), None);
+}
+
+/// The number of the mode that entries show.
+fn mode_shown(raws: &[RawAce]) -> Option<u16> {
+    match raws_mode(raws) {
+        Ok(mode) => Some(mode.bits()),
+        Err(_) => None,
+    }
+}
+
+/// The owner may read; to write takes ACE4_APPEND_DATA too.
+#[test]
+fn the_mode_of_a_list(rt: HostRuntime) {
+    assert_eq!(rt; mode_shown(&RAWS), Some(0o400));
+    assert_eq!(rt; mode_shown(&[]), Some(0));
+    assert_eq!(rt; mode_shown(&[RawAce { kind: 4, ..NOTHING }]), None);
+}
+
+/// 199 entries take effect nowhere, and the last lets everybody read. Without it a stranger, who is
+/// tried as 65534, may not.
+#[test]
+fn what_is_decided_of_a_long_list(rt: HostRuntime) {
+    let mut raws = [RawAce {
+        kind: 1,
+        flags: 8,
+        mask: 1,
+        special: 3,
+        ..NOTHING
+    }; 200];
+    raws[199].flags = 0;
+    raws[199].kind = 0;
+    let wanted = RawDifference {
+        asker: RawAsker {
+            uid: 65534,
+            gid: 0xffff_ffff,
+            other_gid: 0xffff_ffff,
+        },
+        lost: 1,
+        gained: 0,
+    };
+    assert_eq!(rt; raws_fault(&raws), None);
+    assert_eq!(rt; mode_shown(&raws), Some(0o444));
+    assert_eq!(rt;
+        raws_difference(&raws, 7, 1, &raws[..199], 7, 1, 1),
+        Ok(Some(wanted))
+    );
+    raws[199].special = 4;
+    assert_eq!(rt; raws_fault(&raws), Some(Nfs4Fault::Who));
 }
 
 /// The one entry that a file inherits.

@@ -17,8 +17,8 @@ const BYTES: [u8; 44] = [
 
 /// Whether the bytes are read as the list of the text.
 fn is_read(alloc: Global, bytes: &[u8], text: &str) -> Option<bool> {
-    let told = xattr_text(alloc, bytes).ok()?;
-    Some(told.as_slice() == text.as_bytes())
+    let reported = xattr_text(alloc, bytes).ok()?;
+    Some(reported.as_slice() == text.as_bytes())
 }
 
 /// Whether the list of the text is written as the bytes.
@@ -158,9 +158,9 @@ fn who_may_delete(rt: HostRuntime) {
         (8, 1, false, false),
     ];
     for (uid, gid, sticky, wanted) in ROWS {
-        let told = xattr_delete(Rules::Linux, sticky, &FOLDER, 7, 50, 9, uid, &[gid]);
-        assert_eq!(rt; told, Ok(wanted), "{uid} {gid} {sticky}");
+        let reported = xattr_delete(Rules::Linux, sticky, &FOLDER, 7, 50, 9, uid, &[gid]);
+        assert_eq!(rt; reported, Ok(wanted), "{uid} {gid} {sticky}");
     }
-    let told = xattr_delete(Rules::Draft, false, &FOLDER[..27], 7, 50, 9, 7, &[]);
-    assert_eq!(rt; told, Err(PosixFault::Size));
+    let reported = xattr_delete(Rules::Draft, false, &FOLDER[..27], 7, 50, 9, 7, &[]);
+    assert_eq!(rt; reported, Err(PosixFault::Size));
 }

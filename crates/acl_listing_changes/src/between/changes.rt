@@ -1,45 +1,45 @@
-//! What is reported of two listings, one thing after the other.
+//! The report on two listings, item by item.
 ghost use Rattle.std.specs.Prelude.{◌≡◌, ◌&&◌, ◌⊎◌, IfErr, IfOk, OnErr};
 ghost use Rattle.acl_cli.specs.Commands.{FrontWentOut, NothingWentOut, WentOut};
 ghost use Rattle.acl_cli.specs.Failures.{failed_write};
-ghost use Rattle.acl_reports.specs.Telling.{IsListingFailure};
+ghost use Rattle.acl_reports.specs.Reporting.{IsListingFailure};
 ghost use Rattle.acl_listing_changes.specs.Changes.{IsChangeAnswer, IsChangeBegun, OfAfter};
 ghost use Rattle.acl_listing_changes.specs.Changes.{OfListings, ending_of_both, with_difference};
 
 use super::kept::{KeptListing, keep_blocks};
 use super::opening::opening_of;
 use super::progress::{Progress, Stage};
+use super::reporter::ChangeReporter;
 use super::seen::Seen;
 use super::sides::Sides;
-use super::teller::ChangeTeller;
-use acl_cli::{Ending, ErrorOutput, Failure, Telling, tell_each};
+use acl_cli::{Ending, ErrorOutput, Failure, Reporting, report_each};
 use acl_listings::Blocks;
 use std::alloc::Global;
 use std::io::{Read, Write};
 
-/// What is left to tell of two listings.
+/// The rest of the report on two listings.
 #[derive(Drop)]
-struct Changes<'n, 't, C: ChangeTeller, A: Read + Drop> {
+struct Changes<'n, 't, C: ChangeReporter, A: Read + Drop> {
     sides: Sides<'n, 't, C>,
     progress: Progress<A>,
 }
 
-impl<'n, 't, C: ChangeTeller, A: Read + Drop> Telling<'n> for Changes<'n, 't, C, A> {
-    ghost use Rattle.acl_reports.specs.Telling.{IsListingFailure};
-    ghost use Rattle.acl_listing_changes.specs.ChangeSteps.{BeginsLeft, EndsLeft, TellsLeft};
+impl<'n, 't, C: ChangeReporter, A: Read + Drop> Reporting<'n> for Changes<'n, 't, C, A> {
+    ghost use Rattle.acl_reports.specs.Reporting.{IsListingFailure};
+    ghost use Rattle.acl_listing_changes.specs.ChangeSteps.{BeginsLeft, EndsLeft, ReportsLeft};
 
-    ghost Tells = { λ changes. TellsLeft (C.wording changes.sides.teller.now)
+    ghost Reports = { λ changes. ReportsLeft (C.wording changes.sides.reporter.now)
         changes.sides.name.now changes.sides.before.now changes.progress };
 
-    ghost Begins = { λ changes. BeginsLeft (C.wording changes.sides.teller.now)
+    ghost Begins = { λ changes. BeginsLeft (C.wording changes.sides.reporter.now)
         changes.sides.name.now changes.sides.before.now changes.progress };
 
-    ghost Ends = { λ changes. EndsLeft (C.wording changes.sides.teller.now)
+    ghost Ends = { λ changes. EndsLeft (C.wording changes.sides.reporter.now)
         changes.sides.before.now changes.progress };
 
     ghost Fails = { λ changes. IsListingFailure changes.sides.name.now };
 
-    fn tell_next(
+    fn report_next(
         &mut self,
         alloc: Global,
         out: &mut Vec<u8>,
@@ -57,14 +57,14 @@ impl<'n, 't, C: ChangeTeller, A: Read + Drop> Telling<'n> for Changes<'n, 't, C,
             Stage::Gone(place) => {
                 let some = self
                     .progress
-                    .tell_gone(alloc, &self.sides, place, out, beside)?;
+                    .report_gone(alloc, &self.sides, place, out, beside)?;
                 Ok(some)
             }
         }
     }
 }
 
-/// How the answer ends, if all blocks before and after were counted so.
+/// How a report on two listings ends, if the blocks of each, counted alone, end so.
 pub fn ending_of_both(first: Ending, second: Ending) -> Ending
     ensures { result ≡ ending_of_both first second }
 {
@@ -74,7 +74,8 @@ pub fn ending_of_both(first: Ending, second: Ending) -> Ending
     }
 }
 
-/// How the answer ends, if the exit status tells of differences, and there are some.
+/// How a report ends, if `asks` says that the exit status depends on differences, and `some` that
+/// there are any.
 pub fn with_difference(asks: bool, some: bool, ending: Ending) -> Ending
     ensures { result ≡ with_difference (asks && some) ending }
 {
@@ -84,11 +85,11 @@ pub fn with_difference(asks: bool, some: bool, ending: Ending) -> Ending
     }
 }
 
-/// Writes what is reported of the listing in memory, which has the first name, and of the one of
-/// the other name that the reader reads after it, in pieces as they are read.
-fn tell_changes<'n, C: ChangeTeller, A, W, E>(
+/// Writes the report on the listing in memory, which has the first name, and the one that the
+/// reader reads, which has the other, in pieces as they are read.
+fn report_changes<'n, C: ChangeReporter, A, W, E>(
     alloc: Global,
-    teller: &C,
+    reporter: &C,
     name: &'n str,
     before: &KeptListing<'_>,
     other: &'n str,
@@ -101,19 +102,19 @@ where
     W: Write,
     E: Write + Drop,
     ensures answered { IfOk result (λ ending. WentOut (OfAfter
-        (IsChangeAnswer (C.wording teller.now))
+        (IsChangeAnswer (C.wording reporter.now))
         (record { name = name.entry.now; blocks = before.now }) other.entry.now
         (A.remaining after)) ending (W.contents out.old) (W.contents out.new) err.old
         err.new) }
     ensures cut { OnErr result (NothingWentOut (W.contents out.old) (W.contents out.new) err.old
         err.new ⊎ FrontWentOut (OfAfter
-        (IsChangeBegun (C.wording teller.now))
+        (IsChangeBegun (C.wording reporter.now))
         (record { name = name.entry.now; blocks = before.now }) other.entry.now
         (A.remaining after)) (W.contents out.old) (W.contents out.new) err.old err.new) }
     ensures failed { IfErr result (λ failure. IsListingFailure name.entry.now failure
         ⊎ (IsListingFailure other.entry.now failure ⊎ (failure ≡ failed_write))) }
 {
-    let opening = opening_of(alloc, name, teller, before)?;
+    let opening = opening_of(alloc, name, reporter, before)?;
     let seen = Seen::new(alloc, before.len())?;
     let blocks = Blocks::new(alloc, after)?;
     let first = opening.tally.ending();
@@ -125,29 +126,29 @@ where
     };
     let sides = Sides {
         name: other,
-        teller,
+        reporter,
         before,
         reads: opening.reads.as_slice(),
     };
     let mut changes = Changes { sides, progress };
-    let some = tell_each(alloc, &mut changes, out, err)?;
+    let some = report_each(alloc, &mut changes, out, err)?;
     match changes.progress.stage() {
         Stage::Gone(_) => {
             let tally = changes.progress.tally();
             let second = tally.ending();
             let ending = ending_of_both(first, second);
-            let asks = teller.asks();
+            let asks = reporter.asks();
             Ok(with_difference(asks, some, ending))
         }
-        // All is reported only once the end is.
+        // Only the end of the report shows how it ends.
         _ => Err(Failure::Unread(other)),
     }
 }
 
-/// Writes what is reported of two listings, each of which has a name and a reader.
-pub(super) fn tell_both<'n, C: ChangeTeller, B, A, W, E>(
+/// Writes the report on two listings, each of which has a name and a reader.
+pub(super) fn report_both<'n, C: ChangeReporter, B, A, W, E>(
     alloc: Global,
-    teller: &C,
+    reporter: &C,
     before: (&'n str, B),
     after: (&'n str, A),
     out: &mut W,
@@ -159,12 +160,12 @@ where
     W: Write,
     E: Write + Drop,
     ensures answered { IfOk result (λ ending. WentOut (OfListings
-        (IsChangeAnswer (C.wording teller.now))
+        (IsChangeAnswer (C.wording reporter.now))
         before.entry.0.now (B.remaining before.entry.1) after.entry.0.now
         (A.remaining after.entry.1)) ending (W.contents out.old)
         (W.contents out.new) err.old err.new) }
     ensures cut { OnErr result (NothingWentOut (W.contents out.old) (W.contents out.new) err.old
-        err.new ⊎ FrontWentOut (OfListings (IsChangeBegun (C.wording teller.now))
+        err.new ⊎ FrontWentOut (OfListings (IsChangeBegun (C.wording reporter.now))
         before.entry.0.now (B.remaining before.entry.1) after.entry.0.now
         (A.remaining after.entry.1)) (W.contents out.old)
         (W.contents out.new) err.old err.new) }
@@ -173,5 +174,5 @@ where
 {
     let blocks = keep_blocks(alloc, before.0, before.1)?;
     let kept = KeptListing::new(alloc, blocks.as_slice())?;
-    tell_changes(alloc, teller, before.0, &kept, after.0, after.1, out, err)
+    report_changes(alloc, reporter, before.0, &kept, after.0, after.1, out, err)
 }

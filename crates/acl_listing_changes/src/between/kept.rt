@@ -5,7 +5,7 @@ ghost use Rattle.std.specs.HashMap.{get_by};
 ghost use Rattle.std.specs.Option.{option_and_then};
 ghost use Rattle.acl_listings.specs.Cursor.{blocks_to_come};
 ghost use Rattle.acl_reports.specs.Paths.{first_path, has_path};
-ghost use Rattle.acl_reports.specs.Telling.{IsListingFailure};
+ghost use Rattle.acl_reports.specs.Reporting.{IsListingFailure};
 ghost use Rattle.acl_listing_changes.specs.Kept.{AreAll, block_of, first_place, is_earlier};
 ghost use Rattle.acl_listing_changes.specs.Kept.{place_of};
 
@@ -24,7 +24,7 @@ pub(super) struct KeptBlock {
     pub text: Vec<u8>,
 }
 
-/// Keeps a block. It fails only if memory runs out.
+/// Keeps a block. Fails only if memory runs out.
 fn keep(alloc: Global, line: u64, text: &[u8], kept: &mut Vec<KeptBlock>) -> Result<(), AllocError>
     ensures { OnOk result (map block_of kept.new.items ≡ map block_of kept.old.items
         ++ record { line = line; text = text.now } ∷ []) }
@@ -34,7 +34,7 @@ fn keep(alloc: Global, line: u64, text: &[u8], kept: &mut Vec<KeptBlock>) -> Res
     Ok(())
 }
 
-/// Keeps the blocks that are still to come, of the listing of this name.
+/// Keeps the blocks to come of the listing of this name.
 fn keep_each<'n, R: Read + Drop>(
     alloc: Global,
     name: &'n str,
@@ -54,8 +54,8 @@ fn keep_each<'n, R: Read + Drop>(
     Err(Failure::Unread(name))
 }
 
-/// The blocks of the listing that the reader reads, in its order. Of a block that is too long only
-/// the first bytes are kept, of which as much is reported.
+/// The blocks of the listing that the reader reads, in its order. Of a block that is too long it
+/// keeps only the first bytes, which are enough to report it.
 pub(super) fn keep_blocks<'n, R: Read + Drop>(
     alloc: Global,
     name: &'n str,
@@ -88,11 +88,11 @@ fn first_places<'t>(
     Ok(places)
 }
 
-/// A listing whose paths are found quickly. A contract sees the list of its blocks.
+/// A listing with a table of its paths. A contract sees the list of its blocks.
 #[derive(Drop)]
 pub(super) struct KeptListing<'t> {
     blocks: &'t [KeptBlock],
-    /// Where the first block of each path stands.
+    /// The place of the first block of each path.
     places: HashMap<&'t [u8], usize>,
 }
 
@@ -113,7 +113,7 @@ impl<'t> Model for KeptListing<'t> {
 }
 
 impl<'t> KeptListing<'t> {
-    /// The listing of these blocks. It fails only if memory runs out.
+    /// The listing of these blocks. Fails only if memory runs out.
     pub fn new(alloc: Global, blocks: &'t [KeptBlock]) -> Result<KeptListing<'t>, AllocError>
         ensures { IfOk result (λ kept. kept ≡ map block_of blocks.entry.now) }
     {
@@ -135,7 +135,7 @@ impl<'t> KeptListing<'t> {
         self.blocks.get(place)
     }
 
-    /// The block at the place, if there are both.
+    /// The block at the place; `None` without a place, or without a block at it.
     pub fn block_at(&self, place: Option<usize>) -> Option<&KeptBlock>
         ensures { option_map (λ block. block_of block.now) result
             ≡ option_and_then (slice_get self.now) place }
@@ -143,7 +143,7 @@ impl<'t> KeptListing<'t> {
         self.block(place?)
     }
 
-    /// The place of the first block that has the path of this text, if there are both.
+    /// The place of the first block with the path of this text, if there are both.
     pub fn place_of(&self, text: &[u8]) -> Option<usize>
         ensures { result ≡ place_of self.now text.now }
     {
@@ -151,7 +151,7 @@ impl<'t> KeptListing<'t> {
         self.places.get(path).copied()
     }
 
-    /// The first path that there is.
+    /// The first path of the listing.
     pub fn first_path(&self) -> Option<&[u8]>
         ensures { option_map (λ path. path.now) result ≡ first_path self.now }
     {
@@ -163,7 +163,7 @@ impl<'t> KeptListing<'t> {
         None
     }
 
-    /// Whether a block before the one at the place, with this text, has its path.
+    /// Whether a block before the one at the place has the same path as this text.
     pub fn repeats(&self, place: usize, text: &[u8]) -> bool
         ensures { result ≡ is_earlier place (place_of self.now text.now) }
     {

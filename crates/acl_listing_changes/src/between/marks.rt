@@ -1,4 +1,4 @@
-//! Which blocks of the listing before were met.
+//! Marks of the blocks before whose paths the listing after has.
 ghost use Rattle.std.specs.Prelude.{◌≡◌};
 ghost use Rattle.acl_listing_changes.specs.ChangeSteps.{is_marked, with_mark};
 

@@ -5,8 +5,8 @@ ghost use Rattle.acl_cli.specs.Commands.{Comes};
 ghost use Rattle.acl_listing_changes.specs.ChangeMeaning.{IsUnopened, after_in, before_in};
 ghost use Rattle.acl_listing_changes.specs.ChangeMeaning.{change_meaning, is_input_twice};
 
-use super::changes::tell_both;
-use super::teller::ChangeTeller;
+use super::changes::report_both;
+use super::reporter::ChangeReporter;
 use acl_cli::fields::text_field;
 use acl_cli::{Ending, ErrorOutput, Failure, Misuse, OpenFiles, Reason};
 use acl_reports::INPUT;
@@ -35,7 +35,7 @@ pub fn is_input_twice(before: &str, after: &str) -> bool
     before == INPUT && after == INPUT
 }
 
-/// The file of this name. Fails if it can't be opened.
+/// Opens the file of this name. Fails if that isn't possible.
 pub fn open_listing<'n, F: OpenFiles>(files: &F, name: &'n str) -> Result<F::File, Failure<'n>>
     ensures opened { IfOk result (λ file. F.File.remaining file
         ≡ F.bytes_of files.now name.entry.now) }
@@ -47,11 +47,10 @@ pub fn open_listing<'n, F: OpenFiles>(files: &F, name: &'n str) -> Result<F::Fil
     }
 }
 
-/// Writes what is reported of the listings of these names, of which one may be `-`, which is
-/// `input`.
-pub(crate) fn tell_between<'n, C, F, I, W, E>(
+/// Writes the report on the listings of these names. One of them may be `-`, for `input`.
+pub(crate) fn report_between<'n, C, F, I, W, E>(
     alloc: Global,
-    teller: &C,
+    reporter: &C,
     files: &F,
     before: &'n str,
     after: &'n str,
@@ -60,12 +59,12 @@ pub(crate) fn tell_between<'n, C, F, I, W, E>(
     err: &mut ErrorOutput<E>,
 ) -> Result<Ending, Failure<'n>>
 where
-    C: ChangeTeller,
+    C: ChangeReporter,
     F: OpenFiles,
     I: Read,
     W: Write,
     E: Write + Drop,
-    ensures { Comes (change_meaning (C.wording teller.now) (F.bytes_of files.now)
+    ensures { Comes (change_meaning (C.wording reporter.now) (F.bytes_of files.now)
         (I.remaining input.old) before.entry.now after.entry.now) result (W.contents out.old)
         (W.contents out.new) err.old err.new input.old input.new }
 {
@@ -74,12 +73,12 @@ where
     }
     if before == INPUT {
         let later = open_listing(files, after)?;
-        return tell_both(alloc, teller, (before, input), (after, later), out, err);
+        return report_both(alloc, reporter, (before, input), (after, later), out, err);
     }
     let earlier = open_listing(files, before)?;
     if after == INPUT {
-        return tell_both(alloc, teller, (before, earlier), (after, input), out, err);
+        return report_both(alloc, reporter, (before, earlier), (after, input), out, err);
     }
     let later = open_listing(files, after)?;
-    tell_both(alloc, teller, (before, earlier), (after, later), out, err)
+    report_both(alloc, reporter, (before, earlier), (after, later), out, err)
 }

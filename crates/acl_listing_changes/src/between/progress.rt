@@ -1,25 +1,25 @@
-//! How far it saw two listings.
+//! How far two listings were compared.
 ghost use Rattle.std.specs.Prelude.{◌≡◌, IfErr, IfOk, OnOk};
 ghost use Rattle.std.specs.Bool.{MatchBool};
 ghost use Rattle.acl_listings.specs.Cursor.{HandsOut, IsOver};
-ghost use Rattle.acl_reports.specs.Telling.{IsListingFailure};
+ghost use Rattle.acl_reports.specs.Reporting.{IsListingFailure};
 ghost use Rattle.acl_listing_changes.specs.ChangeSteps.{Appended, Here, IsLast, IsStep};
-ghost use Rattle.acl_listing_changes.specs.ChangeSteps.{TellsTold, seen_on};
+ghost use Rattle.acl_listing_changes.specs.ChangeSteps.{ReportsReported, seen_on};
 
+use super::reporter::ChangeReporter;
 use super::seen::Seen;
 use super::sides::Sides;
-use super::teller::ChangeTeller;
-use acl_cli::{Failure, RunFault};
-use acl_listings::{Blocks, ReadFault};
-use acl_reports::Tally;
+use acl_cli::Failure;
+use acl_listings::Blocks;
+use acl_reports::{Tally, advance};
 use std::alloc::{AllocError, Global};
 use std::io::Read;
 use std::marker::Model;
 
-/// What is reported next.
+/// The next item of the report.
 #[derive(Clone, Copy, Debug, PartialEq, Eq)]
 pub(super) enum Stage {
-    /// What is said of the listing before.
+    /// The lines about the listing before.
     Opening,
     /// The next block after.
     After,
@@ -27,11 +27,11 @@ pub(super) enum Stage {
     Gone(usize),
 }
 
-/// How far it saw two listings.
+/// How far two listings were compared.
 #[derive(Drop)]
 pub(super) struct Progress<A: Read + Drop> {
     pub stage: Stage,
-    /// What is said of the listing before.
+    /// The lines about the listing before.
     pub opening: Vec<u8>,
     pub seen: Seen,
     pub blocks: Blocks<A>,
@@ -52,29 +52,29 @@ impl<A: Read + Drop> Model for Progress<A> {
 }
 
 impl<A: Read + Drop> Progress<A> {
-    /// What is reported next.
+    /// The next item of the report.
     pub fn stage(&self) -> Stage
         ensures { result ≡ self.now.stage }
     {
         self.stage
     }
 
-    /// How many blocks after there were.
+    /// How many blocks after were seen.
     pub fn tally(&self) -> Tally
         ensures { result ≡ self.now.seen.tally }
     {
         self.seen.tally()
     }
 
-    /// Says what is said of the listing before.
-    pub fn open<'n, C: ChangeTeller>(
+    /// Reports the lines about the listing before.
+    pub fn open<'n, C: ChangeReporter>(
         &mut self,
         sides: &Sides<'n, '_, C>,
         out: &mut Vec<u8>,
         beside: &mut Vec<u8>,
     ) -> Result<(), AllocError>
         requires { self.old.stage ≡ Stage.Opening }
-        ensures { OnOk result (IsStep (C.wording sides.now.teller.now) sides.now.name.now
+        ensures { OnOk result (IsStep (C.wording sides.now.reporter.now) sides.now.name.now
             sides.now.before.now self.old self.new out.old.items out.new.items beside.old.items
             beside.new.items) }
     {
@@ -83,7 +83,7 @@ impl<A: Read + Drop> Progress<A> {
         Ok(())
     }
 
-    /// Takes the next block after, if there is one, of the listing of this name.
+    /// Goes to the next block of the listing after, which has this name.
     fn advance<'n>(&mut self, name: &'n str) -> Result<bool, Failure<'n>>
         ensures rest { OnOk result (self.new
             ≡ record self.old { block = self.new.block; coming = self.new.coming }) }
@@ -92,15 +92,11 @@ impl<A: Read + Drop> Progress<A> {
             (IsOver self.old.coming)) }
         ensures failed { IfErr result (IsListingFailure name.entry.now) }
     {
-        match self.blocks.advance() {
-            Ok(some) => Ok(some),
-            Err(ReadFault::Read) => Err(Failure::Unread(name)),
-            Err(ReadFault::Memory) => Err(Failure::Lacks(RunFault::Memory)),
-        }
+        advance(name, &mut self.blocks)
     }
 
-    /// Tells of the block at hand.
-    fn tell_here<'n, C: ChangeTeller>(
+    /// Reports on the current block.
+    fn report_here<'n, C: ChangeReporter>(
         &mut self,
         alloc: Global,
         sides: &Sides<'n, '_, C>,
@@ -108,10 +104,10 @@ impl<A: Read + Drop> Progress<A> {
         beside: &mut Vec<u8>,
     ) -> Result<(), Failure<'n>>
         ensures seen { OnOk result (self.new ≡ record self.old {
-          seen = seen_on (C.wording sides.now.teller.now) sides.now.before.now self.old.seen
+          seen = seen_on (C.wording sides.now.reporter.now) sides.now.before.now self.old.seen
               self.old.block;
         }) }
-        ensures told { OnOk result (Appended (TellsTold (C.wording sides.now.teller.now)
+        ensures reported { OnOk result (Appended (ReportsReported (C.wording sides.now.reporter.now)
             sides.now.name.now sides.now.before.now (Here self.old.seen self.old.block))
             out.old.items out.new.items beside.old.items beside.new.items) }
         ensures failed { IfErr result (IsListingFailure sides.now.name.now) }
@@ -119,12 +115,12 @@ impl<A: Read + Drop> Progress<A> {
         let line = self.blocks.line();
         let text = self.blocks.text();
         let place = sides.before.place_of(text);
-        let fault = sides.tell_block(alloc, &self.seen, place, line, text, out, beside)?;
+        let fault = sides.report_block(alloc, &self.seen, place, line, text, out, beside)?;
         self.seen.add(alloc, sides.name, place, text, fault)
     }
 
-    /// Tells of the next block after, or that there is none.
-    pub fn go_on<'n, C: ChangeTeller>(
+    /// Reports on the next block after, or on the end of the listing.
+    pub fn go_on<'n, C: ChangeReporter>(
         &mut self,
         alloc: Global,
         sides: &Sides<'n, '_, C>,
@@ -132,13 +128,13 @@ impl<A: Read + Drop> Progress<A> {
         beside: &mut Vec<u8>,
     ) -> Result<(), Failure<'n>>
         requires { self.old.stage ≡ Stage.After }
-        ensures step { OnOk result (IsStep (C.wording sides.now.teller.now) sides.now.name.now
+        ensures step { OnOk result (IsStep (C.wording sides.now.reporter.now) sides.now.name.now
             sides.now.before.now self.old self.new out.old.items out.new.items beside.old.items
             beside.new.items) }
         ensures failed { IfErr result (IsListingFailure sides.now.name.now) }
     {
         if self.advance(sides.name)? {
-            self.tell_here(alloc, sides, out, beside)?;
+            self.report_here(alloc, sides, out, beside)?;
             return Ok(());
         }
         sides.say_closing(&self.seen, beside)?;
@@ -146,8 +142,9 @@ impl<A: Read + Drop> Progress<A> {
         Ok(())
     }
 
-    /// Tells of the block before at this place, if there is one, and its path is gone.
-    pub fn tell_gone<'n, C: ChangeTeller>(
+    /// Reports on the block before at this place, if its path is gone. Returns whether there is a
+    /// block.
+    pub fn report_gone<'n, C: ChangeReporter>(
         &mut self,
         alloc: Global,
         sides: &Sides<'n, '_, C>,
@@ -157,15 +154,15 @@ impl<A: Read + Drop> Progress<A> {
     ) -> Result<bool, AllocError>
         requires { self.old.stage ≡ Stage.Gone place }
         ensures { IfOk result (λ some. MatchBool some
-            (IsStep (C.wording sides.now.teller.now) sides.now.name.now sides.now.before.now
+            (IsStep (C.wording sides.now.reporter.now) sides.now.name.now sides.now.before.now
             self.old self.new out.old.items out.new.items beside.old.items beside.new.items)
-            (IsLast (C.wording sides.now.teller.now) sides.now.name.now sides.now.before.now
+            (IsLast (C.wording sides.now.reporter.now) sides.now.name.now sides.now.before.now
             self.old self.new out.old.items out.new.items beside.old.items beside.new.items)) }
     {
         if place >= sides.before.len() {
             return Ok(false);
         }
-        sides.tell_missing(alloc, &self.seen, place, out, beside)?;
+        sides.report_missing(alloc, &self.seen, place, out, beside)?;
         self.stage = Stage::Gone(place + 1);
         Ok(true)
     }

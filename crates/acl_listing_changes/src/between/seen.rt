@@ -1,8 +1,8 @@
-//! What was seen of the listing after.
+//! The part of the listing after that was seen.
 ghost use Rattle.std.specs.Prelude.{◌≡◌, IfErr, IfOk, OnOk, option_map};
 ghost use Rattle.acl_listings.specs.Block.{path_of};
 ghost use Rattle.acl_reports.specs.Paths.{or_first};
-ghost use Rattle.acl_reports.specs.Telling.{IsListingFailure};
+ghost use Rattle.acl_reports.specs.Reporting.{IsListingFailure};
 ghost use Rattle.acl_listing_changes.specs.ChangeSteps.{is_marked, nothing_seen, with_seen};
 
 use super::marks::{is_marked, mark};
@@ -12,16 +12,16 @@ use acl_reports::Tally;
 use std::alloc::{AllocError, Global};
 use std::marker::Model;
 
-/// What was seen of the listing after.
+/// The part of the listing after that was seen.
 #[derive(Drop)]
 pub(super) struct Seen {
-    /// Whether a block has been met that has the path of the block before at each place, if that is
-    /// the first one of its path.
+    /// Whether the path of the block before at each place was seen, if that is the first block with
+    /// it.
     met: Vec<bool>,
     tally: Tally,
-    /// The first path.
+    /// The first path of it.
     first: Option<Vec<u8>>,
-    /// Whether the listing before has a path of it.
+    /// Whether the listing before has any path of it.
     known: bool,
 }
 
@@ -39,7 +39,7 @@ impl Model for Seen {
     } };
 }
 
-/// The path of this text, if it has one. It fails only if memory runs out.
+/// A copy of this text's path, if it has one. Fails only if memory runs out.
 fn path_kept(alloc: Global, text: &[u8]) -> Result<Option<Vec<u8>>, AllocError>
     ensures { IfOk result (λ path. option_map (λ path. path.items) path ≡ path_of text.now) }
 {
@@ -50,7 +50,7 @@ fn path_kept(alloc: Global, text: &[u8]) -> Result<Option<Vec<u8>>, AllocError>
 }
 
 impl Seen {
-    /// No block was seen. The listing before has so many.
+    /// No blocks. `count` is how many the listing before has.
     pub fn new(alloc: Global, count: usize) -> Result<Seen, AllocError>
         ensures { IfOk result (λ seen. seen ≡ nothing_seen count) }
     {
@@ -62,21 +62,21 @@ impl Seen {
         })
     }
 
-    /// Whether the block before at this place was met, if there is one.
+    /// Whether the path of the block before at this place was seen.
     pub fn is_met(&self, place: Option<usize>) -> bool
         ensures { result ≡ is_marked self.now.met place }
     {
         is_marked(self.met.as_slice(), place)
     }
 
-    /// How many blocks there were.
+    /// How many blocks were seen.
     pub fn tally(&self) -> Tally
         ensures { result ≡ self.now.tally }
     {
         self.tally
     }
 
-    /// The first path.
+    /// The first path that was seen.
     pub fn first(&self) -> Option<&[u8]>
         ensures { option_map (λ path. path.now) result ≡ self.now.first }
     {
@@ -86,7 +86,7 @@ impl Seen {
         }
     }
 
-    /// Whether the listing before has a path of it.
+    /// Whether the listing before has any path that was seen.
     pub fn is_known(&self) -> bool
         ensures { result ≡ self.now.known }
     {
@@ -104,8 +104,8 @@ impl Seen {
         Ok(())
     }
 
-    /// One block more, with this text, whose path the block before at this place has. This is wrong
-    /// with it, if anything is. Its listing has this name.
+    /// Adds a block with this text and this fault, if it has one. `place` is that of the block
+    /// before with its path, and `name` the listing's.
     pub fn add<'n>(
         &mut self,
         alloc: Global,

@@ -1,37 +1,40 @@
-//! Two listings, of which the one before is in memory.
+//! Two listings, the one before in memory.
 ghost use Rattle.std.specs.Prelude.{◌≡◌, ◌++◌, IfErr, IfOk, OnOk, is_none};
 ghost use Rattle.acl_reports.specs.Listed.{closing};
 ghost use Rattle.acl_reports.specs.Paths.{block_for, first_path};
-ghost use Rattle.acl_reports.specs.Telling.{IsListingFailure};
-ghost use Rattle.acl_listing_changes.specs.ChangeSteps.{Appended, AreRead, TellsMissing, TellsTold};
+ghost use Rattle.acl_reports.specs.Reporting.{IsListingFailure};
+ghost use Rattle.acl_listing_changes.specs.ChangeSteps.{Appended, AreRead, ReportsMissing};
+ghost use Rattle.acl_listing_changes.specs.ChangeSteps.{ReportsReported};
 ghost use Rattle.acl_listing_changes.specs.ChangeSteps.{Here, fault_here};
-ghost use Rattle.acl_listing_changes.specs.Changes.{TellsIf, TellsNextBy, TellsSince, apart_by};
+ghost use Rattle.acl_listing_changes.specs.ChangeSteps.{};
+ghost use Rattle.acl_listing_changes.specs.Changes.{ReportsIf, ReportsNextBy, ReportsSince};
+ghost use Rattle.acl_listing_changes.specs.Changes.{apart_by};
 ghost use Rattle.acl_listing_changes.specs.Kept.{place_of};
 
 use super::faults::{push_fault, say_block};
 use super::kept::KeptListing;
 use super::marks::is_marked;
+use super::reporter::ChangeReporter;
 use super::seen::Seen;
-use super::teller::ChangeTeller;
 use acl_cli::Failure;
 use acl_listings::BlockFault;
 use std::alloc::{AllocError, Global};
 
-/// Two listings, and how it is reported what changed between them.
+/// Two listings, and the reporter of what changed between them.
 #[derive(Drop)]
-pub(super) struct Sides<'n, 't, C: ChangeTeller> {
+pub(super) struct Sides<'n, 't, C: ChangeReporter> {
     /// The name of the listing after.
     pub name: &'n str,
-    pub teller: &'t C,
+    pub reporter: &'t C,
     pub before: &'t KeptListing<'t>,
-    /// Of the block before at each place whether it is known that nothing is wrong with it.
+    /// Whether the block before at each place is known to have no fault.
     pub reads: &'t [bool],
-    ghost known: { AreRead (C.wording teller.now) before.now reads.now },
+    ghost known: { AreRead (C.wording reporter.now) before.now reads.now },
 }
 
-impl<'n, 't, C: ChangeTeller> Sides<'n, 't, C> {
-    /// Appends what is reported of a block after with this text, whose path the block before at
-    /// this place has, unless something is wrong with it.
+impl<'n, 't, C: ChangeReporter> Sides<'n, 't, C> {
+    /// Appends the report on a block after with this text, unless it has a fault. `place` is that
+    /// of the block before with its path.
     fn push_since(
         &self,
         alloc: Global,
@@ -41,26 +44,26 @@ impl<'n, 't, C: ChangeTeller> Sides<'n, 't, C> {
         beside: &mut Vec<u8>,
     ) -> Result<Option<BlockFault>, AllocError>
         ensures fault { IfOk result (λ fault.
-            fault ≡ (C.wording self.now.teller.now).fault text.now) }
-        ensures told { place ≡ place_of self.now.before.now text.now → IfOk result (λ fault.
-            Appended (TellsIf (is_none fault) (TellsSince (C.wording self.now.teller.now)
+            fault ≡ (C.wording self.now.reporter.now).fault text.now) }
+        ensures reported { place ≡ place_of self.now.before.now text.now → IfOk result (λ fault.
+            Appended (ReportsIf (is_none fault) (ReportsSince (C.wording self.now.reporter.now)
             (block_for self.now.before.now text.now) text.now)) out.old.items out.new.items
             beside.old.items beside.new.items) }
     {
         match self.before.block_at(place) {
-            None => self.teller.push_new(alloc, text, out, beside),
+            None => self.reporter.push_new(alloc, text, out, beside),
             Some(old) => {
                 let old = old.text.as_slice();
                 let reads = is_marked(self.reads, place);
-                self.teller
+                self.reporter
                     .push_changed(alloc, old, reads, text, out, beside)
             }
         }
     }
 
-    /// Appends what is reported of a block after with this text, whose path the block before at
-    /// this place has, and which repeats no path, or what is wrong with it.
-    fn tell_once(
+    /// Appends the report on a block after with this text, whose path is no repeated one, or the
+    /// line about its fault. `place` is that of the block before with its path.
+    fn report_once(
         &self,
         alloc: Global,
         place: Option<usize>,
@@ -70,9 +73,9 @@ impl<'n, 't, C: ChangeTeller> Sides<'n, 't, C> {
         beside: &mut Vec<u8>,
     ) -> Result<Option<BlockFault>, Failure<'n>>
         ensures fault { IfOk result (λ fault.
-            fault ≡ (C.wording self.now.teller.now).fault text.now) }
-        ensures told { place ≡ place_of self.now.before.now text.now → IfOk result (λ fault.
-            Appended (TellsNextBy (C.wording self.now.teller.now) self.now.name.now
+            fault ≡ (C.wording self.now.reporter.now).fault text.now) }
+        ensures reported { place ≡ place_of self.now.before.now text.now → IfOk result (λ fault.
+            Appended (ReportsNextBy (C.wording self.now.reporter.now) self.now.name.now
             (block_for self.now.before.now text.now) (record { line = line; text = text.now })
             fault) out.old.items out.new.items beside.old.items beside.new.items) }
         ensures failed { IfErr result (IsListingFailure self.now.name.now) }
@@ -80,13 +83,13 @@ impl<'n, 't, C: ChangeTeller> Sides<'n, 't, C> {
         let Some(fault) = self.push_since(alloc, place, text, out, beside)? else {
             return Ok(None);
         };
-        push_fault(self.name, self.teller, line, text, fault, beside)?;
+        push_fault(self.name, self.reporter, line, text, fault, beside)?;
         Ok(Some(fault))
     }
 
-    /// Appends what is reported of a block after with this text, whose path the block before at
-    /// this place has, or what is wrong with it.
-    pub fn tell_block(
+    /// Appends the report on a block after with this text, or the line about its fault. `place` is
+    /// that of the block before with its path.
+    pub fn report_block(
         &self,
         alloc: Global,
         seen: &Seen,
@@ -97,39 +100,39 @@ impl<'n, 't, C: ChangeTeller> Sides<'n, 't, C> {
         beside: &mut Vec<u8>,
     ) -> Result<Option<BlockFault>, Failure<'n>>
         ensures fault { place ≡ place_of self.now.before.now text.now → IfOk result (λ fault.
-            fault ≡ fault_here (C.wording self.now.teller.now) self.now.before.now seen.now.met
+            fault ≡ fault_here (C.wording self.now.reporter.now) self.now.before.now seen.now.met
             text.now) }
-        ensures told { place ≡ place_of self.now.before.now text.now → IfOk result (λ _.
-            Appended (TellsTold (C.wording self.now.teller.now) self.now.name.now
+        ensures reported { place ≡ place_of self.now.before.now text.now → IfOk result (λ _.
+            Appended (ReportsReported (C.wording self.now.reporter.now) self.now.name.now
             self.now.before.now (Here seen.now (record { line = line; text = text.now })))
             out.old.items out.new.items beside.old.items beside.new.items) }
         ensures failed { IfErr result (IsListingFailure self.now.name.now) }
     {
         if seen.is_met(place) {
-            return say_block(alloc, self.name, self.teller, line, text, true, beside);
+            return say_block(alloc, self.name, self.reporter, line, text, true, beside);
         }
-        self.tell_once(alloc, place, line, text, out, beside)
+        self.report_once(alloc, place, line, text, out, beside)
     }
 
-    /// Appends what is said if no path is in both listings.
+    /// Appends the line for listings without a common path.
     fn say_apart(&self, seen: &Seen, beside: &mut Vec<u8>) -> Result<(), AllocError>
         ensures { OnOk result (beside.new.items ≡ beside.old.items
-            ++ apart_by (C.wording self.now.teller.now) seen.now.known
+            ++ apart_by (C.wording self.now.reporter.now) seen.now.known
             (first_path self.now.before.now) seen.now.first) }
     {
         if seen.is_known() {
             return Ok(());
         }
         match (self.before.first_path(), seen.first()) {
-            (Some(first), Some(second)) => self.teller.push_apart(first, second, beside),
+            (Some(first), Some(second)) => self.reporter.push_apart(first, second, beside),
             _ => Ok(()),
         }
     }
 
-    /// Appends what is said once all blocks after were reported.
+    /// Appends the closing lines, once all blocks after were reported.
     pub fn say_closing(&self, seen: &Seen, beside: &mut Vec<u8>) -> Result<(), AllocError>
         ensures { OnOk result (beside.new.items ≡ beside.old.items
-            ++ (apart_by (C.wording self.now.teller.now) seen.now.known
+            ++ (apart_by (C.wording self.now.reporter.now) seen.now.known
             (first_path self.now.before.now) seen.now.first
             ++ closing self.now.name.now seen.now.tally)) }
     {
@@ -137,8 +140,8 @@ impl<'n, 't, C: ChangeTeller> Sides<'n, 't, C> {
         seen.tally().push_closing(self.name, beside)
     }
 
-    /// Appends what is reported of the block before at this place, if its path is gone.
-    pub fn tell_missing(
+    /// Appends the report on the block before at this place, if its path is gone.
+    pub fn report_missing(
         &self,
         alloc: Global,
         seen: &Seen,
@@ -146,7 +149,7 @@ impl<'n, 't, C: ChangeTeller> Sides<'n, 't, C> {
         out: &mut Vec<u8>,
         beside: &mut Vec<u8>,
     ) -> Result<(), AllocError>
-        ensures { OnOk result (Appended (TellsMissing (C.wording self.now.teller.now)
+        ensures { OnOk result (Appended (ReportsMissing (C.wording self.now.reporter.now)
             self.now.before.now seen.now.met place) out.old.items out.new.items beside.old.items
             beside.new.items) }
     {
@@ -160,6 +163,6 @@ impl<'n, 't, C: ChangeTeller> Sides<'n, 't, C> {
         if self.before.repeats(place, text) {
             return Ok(());
         }
-        self.teller.push_gone(alloc, text, out, beside)
+        self.reporter.push_gone(alloc, text, out, beside)
     }
 }

@@ -1,13 +1,13 @@
-//! Whom a change concerns, of those who are asked about.
+//! Which of the users gain or lose access.
 ghost use Rattle.std.specs.Prelude.{◌≡◌, ◌++◌, IfOk, OnOk, map, option_map, slice_get};
 ghost use Rattle.std.specs.List.{flat_map};
 ghost use Rattle.acl_bridge.specs.Files.{view_acl};
 ghost use Rattle.acl_nfs4.specs.Mask.{mask_bits};
 ghost use Rattle.acl_people.specs.Asked.{persons_in};
 ghost use Rattle.acl_listing_changes.specs.ImpactText.{person_text, line_at};
-ghost use Rattle.acl_listing_changes.specs.ImpactSteps.{TellsAt, TellsBy, view_one};
-ghost use Rattle.acl_listing_changes.specs.Impacting.{Tells, TellsAnybody, TellsFirst};
-ghost use Rattle.acl_listing_changes.specs.Impacting.{TellsPersons, TellsThose, lines_if};
+ghost use Rattle.acl_listing_changes.specs.ImpactSteps.{ReportsAt, ReportsBy, view_one};
+ghost use Rattle.acl_listing_changes.specs.Impacting.{Reports, ReportsAnybody, ReportsFirst};
+ghost use Rattle.acl_listing_changes.specs.Impacting.{ReportsPersons, ReportsThose, lines_if};
 ghost use Rattle.acl_listing_changes.specs.Impacting.{may_line};
 
 use crate::impact_lines::{push_person, push_somebody};
@@ -20,7 +20,7 @@ use acl_people::People;
 use bitflags::Flags;
 use std::alloc::{AllocError, Global};
 
-/// One who is asked about: the name as getfacl prints it, and who it is.
+/// A user to evaluate: the name as getfacl prints it, and the requester.
 #[derive(Clone, Copy)]
 pub(super) struct One<'t> {
     name: &'t [u8],
@@ -38,14 +38,14 @@ fn name_at(names: &[Vec<u8>], place: usize) -> Option<&[u8]>
     }
 }
 
-/// Who asks at the place.
+/// The requester at the place.
 fn requester_at(requesters: &[Requester], place: usize) -> Option<&Requester>
     ensures { option_map (λ requester. requester.now) result ≡ slice_get requesters.now place }
 {
     requesters.get(place)
 }
 
-/// Who is at the place.
+/// The user at the place.
 fn one_at(people: &People, place: usize) -> Option<One<'_>>
     ensures { option_map view_one result ≡ slice_get (persons_in people.now) place }
 {
@@ -58,8 +58,7 @@ fn one_at(people: &People, place: usize) -> Option<One<'_>>
     Some(One { name, requester })
 }
 
-/// Appends the line of somebody whom it concerns that a file became another, and returns whether it
-/// does.
+/// Appends the user's line if the user gains or loses access, and returns whether that is so.
 fn push_changed(
     before: &FileAcl<'_>,
     after: &FileAcl<'_>,
@@ -67,7 +66,8 @@ fn push_changed(
     path: &[u8],
     out: &mut Vec<u8>,
 ) -> Result<bool, AllocError>
-    ensures { IfOk result (λ some. Tells (TellsBy some (view_acl before.now) (view_acl after.now)
+    ensures { IfOk result (λ some. Reports (ReportsBy some (view_acl before.now)
+        (view_acl after.now)
         path.now (view_one one.now)) out.old.items out.new.items) }
 {
     match change_for(before, after, one.requester) {
@@ -86,8 +86,8 @@ fn push_changed(
     }
 }
 
-/// Appends the line of who is at the place, if a change concerns somebody there, and returns
-/// whether it does.
+/// Appends the line of the user at the place, if there is one who gains or loses access, and
+/// returns whether that is so.
 fn push_changed_at(
     before: &FileAcl<'_>,
     after: &FileAcl<'_>,
@@ -96,7 +96,8 @@ fn push_changed_at(
     path: &[u8],
     out: &mut Vec<u8>,
 ) -> Result<bool, AllocError>
-    ensures { IfOk result (λ some. Tells (TellsAt some (view_acl before.now) (view_acl after.now)
+    ensures { IfOk result (λ some. Reports (ReportsAt some (view_acl before.now)
+        (view_acl after.now)
         path.now (slice_get (persons_in people.now) place)) out.old.items out.new.items) }
 {
     match one_at(people, place) {
@@ -105,7 +106,7 @@ fn push_changed_at(
     }
 }
 
-/// Appends the line of each whom it concerns that a file became another.
+/// Appends the line of each user who gains or loses access.
 fn push_each(
     before: &FileAcl<'_>,
     after: &FileAcl<'_>,
@@ -113,7 +114,8 @@ fn push_each(
     path: &[u8],
     out: &mut Vec<u8>,
 ) -> Result<(), AllocError>
-    ensures { OnOk result (Tells (TellsPersons (view_acl before.now) (view_acl after.now) path.now
+    ensures { OnOk result (Reports (ReportsPersons (view_acl before.now)
+        (view_acl after.now) path.now
         (persons_in people.now)) out.old.items out.new.items) }
 {
     for place in 0..people.requesters.len() {
@@ -122,7 +124,7 @@ fn push_each(
     Ok(())
 }
 
-/// Appends the line of the first whom it concerns that a file became another.
+/// Appends the line of the first user who gains or loses access.
 fn push_first(
     before: &FileAcl<'_>,
     after: &FileAcl<'_>,
@@ -130,7 +132,7 @@ fn push_first(
     path: &[u8],
     out: &mut Vec<u8>,
 ) -> Result<(), AllocError>
-    ensures { OnOk result (Tells (TellsFirst (view_acl before.now) (view_acl after.now) path.now
+    ensures { OnOk result (Reports (ReportsFirst (view_acl before.now) (view_acl after.now) path.now
         (persons_in people.now)) out.old.items out.new.items) }
 {
     for place in 0..people.requesters.len() {
@@ -141,7 +143,7 @@ fn push_first(
     Ok(())
 }
 
-/// Appends the line of each whom it concerns that a file became another, or of the first of them.
+/// Appends the line of each user who gains or loses access, or only of the first.
 pub(super) fn push_those(
     each: bool,
     before: &FileAcl<'_>,
@@ -150,7 +152,7 @@ pub(super) fn push_those(
     path: &[u8],
     out: &mut Vec<u8>,
 ) -> Result<(), AllocError>
-    ensures { OnOk result (Tells (TellsThose each (view_acl before.now) (view_acl after.now)
+    ensures { OnOk result (Reports (ReportsThose each (view_acl before.now) (view_acl after.now)
         path.now (persons_in people.now)) out.old.items out.new.items) }
 {
     if each {
@@ -160,8 +162,8 @@ pub(super) fn push_those(
     }
 }
 
-/// Appends the line of somebody whom it concerns that a file became another, and who is neither uid
-/// 0 nor one of these, if anybody else is asked about.
+/// Appends the line of somebody who gains or loses access and is neither uid 0 nor known, if
+/// `asked` is set.
 pub(super) fn push_anybody(
     alloc: Global,
     asked: bool,
@@ -171,7 +173,7 @@ pub(super) fn push_anybody(
     path: &[u8],
     out: &mut Vec<u8>,
 ) -> Result<(), AllocError>
-    ensures { OnOk result (Tells (TellsAnybody asked known.now (view_acl before.now)
+    ensures { OnOk result (Reports (ReportsAnybody asked known.now (view_acl before.now)
         (view_acl after.now) path.now) out.old.items out.new.items) }
 {
     if !asked {
@@ -184,8 +186,8 @@ pub(super) fn push_anybody(
     }
 }
 
-/// Appends the line of who is at the place: what is lost and gained there, and where. Nothing if
-/// nobody is. Fails only if memory runs out.
+/// Appends the line of the user at the place, with what is lost and gained and the path; nothing if
+/// there is no user. Fails only if memory runs out.
 pub fn push_person_at(
     people: &People,
     place: usize,
@@ -204,7 +206,8 @@ pub fn push_person_at(
     }
 }
 
-/// Appends the line of somebody who may do something with a new file, or might with a gone one.
+/// Appends the user's line if the user has a permission on the new file, or had one on the gone
+/// file.
 fn push_may(
     gone: bool,
     file: &FileAcl<'_>,
@@ -227,8 +230,7 @@ fn push_may(
     }
 }
 
-/// Appends the line of who is at the place, if it may do something with a new file, or might with a
-/// gone one.
+/// Appends that line for the user at the place.
 fn push_may_at(
     gone: bool,
     file: &FileAcl<'_>,
@@ -247,7 +249,7 @@ fn push_may_at(
     }
 }
 
-/// Appends the line of each who may do something with a new file, or might with a gone one.
+/// Appends the line of each user with a permission on the new file, or on the gone file.
 fn push_each_who_may(
     gone: bool,
     file: &FileAcl<'_>,
@@ -264,8 +266,8 @@ fn push_each_who_may(
     Ok(())
 }
 
-/// Appends the line of each who may do something with a new file, or might with a gone one, if each
-/// has a line.
+/// Appends the line of each user with a permission on the new file, or on the gone file, if `each`
+/// is set.
 pub(super) fn push_all_who_may(
     each: bool,
     gone: bool,

@@ -1,4 +1,4 @@
-//! What is written otherwise in two blocks of one path.
+//! What differs between two blocks of one path.
 ghost use Rattle.std.specs.Prelude.{◌≡◌, ◌++◌, ◌||◌, ◌↔◌, IsTrue, OnOk, option_map};
 ghost use Rattle.acl_listings.specs.Views.{view_file};
 ghost use Rattle.acl_listing_changes.specs.WrittenChanges.{IsChanged, access_in, changed_text};
@@ -9,7 +9,7 @@ use acl_listings::{File, Lists};
 use acl_posix::Acl;
 use std::alloc::AllocError;
 
-/// Which of what a block says of a file another one says otherwise.
+/// What differs between the files of two blocks.
 #[derive(Clone, Copy)]
 pub(super) struct Changed {
     pub owner: bool,
@@ -19,7 +19,7 @@ pub(super) struct Changed {
     pub default: bool,
 }
 
-/// Whether both are of one style and have the same entries in their access lists.
+/// Whether both have the same style, and the same entries in their access lists.
 fn has_same_access(first: &Lists, second: &Lists) -> bool
     ensures { IsTrue result ↔ (access_in first.now ≡ access_in second.now) }
 {
@@ -42,7 +42,7 @@ fn default_of(lists: &Lists) -> Option<&Acl>
     }
 }
 
-/// Whether both have no default list, or one of the same entries.
+/// Whether both have no default list, or default lists with the same entries.
 fn has_same_default(first: &Lists, second: &Lists) -> bool
     ensures { IsTrue result ↔ (default_in first.now ≡ default_in second.now) }
 {
@@ -75,7 +75,7 @@ impl Changed {
     }
 }
 
-/// Appends a word if it is so, behind a comma if there is one before it.
+/// Appends a word if `is` is true, with a comma before it unless it is the first.
 fn push_word_if(is: bool, before: bool, word: &str, out: &mut Vec<u8>) -> Result<(), AllocError>
     ensures { OnOk result (out.new.items ≡ out.old.items ++ word_if is before word.now) }
 {
@@ -101,8 +101,7 @@ fn push_words(changed: Changed, out: &mut Vec<u8>) -> Result<(), AllocError>
     push_word_if(changed.default, header || changed.access, "default", out)
 }
 
-/// Appends the line of a path of which something is written otherwise, if it is, and the line is
-/// asked for.
+/// Appends the line of a path whose blocks differ, if they do and `asked` is set.
 pub(super) fn push_changed(
     asked: bool,
     changed: Changed,

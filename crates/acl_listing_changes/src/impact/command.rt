@@ -1,12 +1,12 @@
-//! `impact` by lists.
+//! `impact` without `--reach`.
 ghost use Rattle.std.specs.Prelude.{◌≡◌, ◌||◌, codes};
 ghost use Rattle.clap.specs.Words.{found_of, rows_of};
 ghost use Rattle.acl_cli.specs.Commands.{Comes};
 ghost use Rattle.acl_cli.specs.Fields.{flag_in};
 ghost use Rattle.acl_listing_changes.specs.ImpactMeaning.{lists_meaning, names_users};
 
-use super::teller::ImpactTeller;
-use crate::between::{after_field, before_field, is_input_twice, tell_between};
+use super::reporter::ImpactReporter;
+use crate::between::{after_field, before_field, is_input_twice, report_between};
 use acl_cli::fields::flag_field;
 use acl_cli::{Ending, ErrorOutput, Failure, Misuse, OpenFiles};
 use acl_people::{read_host, read_people, user_fields};
@@ -14,14 +14,14 @@ use clap::ArgMatches;
 use std::alloc::Global;
 use std::io::{Read, Write};
 
-/// Whether the words name users to ask about, by `--user`. Then nobody else has a line.
+/// Whether `--user` is given. Then nobody else has a line.
 fn names_users(matches: &ArgMatches<'_>) -> bool
     ensures { result ≡ names_users (rows_of (found_of matches.now)) }
 {
     user_fields(matches).is_some()
 }
 
-/// Whether each who is asked about has a line, by `--all` or `--user`.
+/// Whether each affected user has a line: `--all` or `--user` is given.
 pub fn each_has_a_line(matches: &ArgMatches<'_>) -> bool
     ensures { result ≡ (flag_in (codes "all") (rows_of (found_of matches.now))
         || names_users (rows_of (found_of matches.now))) }
@@ -29,10 +29,10 @@ pub fn each_has_a_line(matches: &ArgMatches<'_>) -> bool
     flag_field(matches, "all") || names_users(matches)
 }
 
-/// Writes for whom two listings differ, of the lists of their files: BEFORE is kept in memory, and
-/// AFTER read as it comes; one of them may be `-`, which is what `input` has. It ends, and fails,
-/// as the command does.
-pub fn tell_impact<'a, F: OpenFiles, I: Read, W: Write, E: Write + Drop>(
+/// Writes who gains or loses access between two listings, by each file's own list. It keeps BEFORE
+/// in memory, and reads AFTER in pieces; one of them may be `-`, for `input`. It ends and fails as
+/// the command does.
+pub fn report_impact<'a, F: OpenFiles, I: Read, W: Write, E: Write + Drop>(
     alloc: Global,
     files: &F,
     matches: &ArgMatches<'a>,
@@ -51,7 +51,7 @@ pub fn tell_impact<'a, F: OpenFiles, I: Read, W: Write, E: Write + Drop>(
     }
     let host = read_host(alloc, files, matches)?;
     let people = read_people(alloc, &host, matches)?;
-    let teller = ImpactTeller {
+    let reporter = ImpactReporter {
         host: &host,
         people: &people,
         each: each_has_a_line(matches),
@@ -59,5 +59,5 @@ pub fn tell_impact<'a, F: OpenFiles, I: Read, W: Write, E: Write + Drop>(
         written: flag_field(matches, "text"),
         asks: flag_field(matches, "exit-code"),
     };
-    tell_between(alloc, &teller, files, before, after, input, out, err)
+    report_between(alloc, &reporter, files, before, after, input, out, err)
 }

@@ -1,8 +1,8 @@
-//! Whom changes concern, of those who are asked about and of anybody.
+//! Who gains or loses access by changes: of the users to evaluate, and of anybody.
 ghost use Rattle.std.specs.Prelude.{◌≡◌, ◌++◌, ◌&&◌, OnOk, nat_eq};
 ghost use Rattle.acl_bridge.specs.Files.{view_acl};
 ghost use Rattle.acl_listing_changes.specs.Concerns.{concern_of};
-ghost use Rattle.acl_listing_changes.specs.Impacting.{Tells, TellsImpact, told_at};
+ghost use Rattle.acl_listing_changes.specs.Impacting.{Reports, ReportsImpact, reported_at};
 
 use super::asked::{push_all_who_may, push_anybody, push_those};
 use crate::impact_lines::push_path;
@@ -11,18 +11,18 @@ use acl_bridge::FileAcl;
 use acl_people::People;
 use std::alloc::{AllocError, Global};
 
-/// Whom changes concern.
+/// Whose lines are printed.
 #[derive(Clone, Copy)]
 pub(super) struct Concerned<'t> {
-    /// Who is asked about.
+    /// The users to evaluate.
     pub people: &'t People,
-    /// Whether each of these people has a line, and not only the first.
+    /// Whether each affected user has a line, and not only the first.
     pub each: bool,
-    /// Whether somebody else has one, if none of them has.
+    /// Whether somebody who is none of the users has a line, if no user is affected.
     pub somebody: bool,
 }
 
-/// Whether this is so, and nothing was appended to a text that had so many bytes and now has these.
+/// Whether `somebody` is set, and a text that had `kept` bytes and has `now` hasn't grown.
 fn nothing_yet(somebody: bool, kept: usize, now: usize) -> bool
     ensures { result ≡ (somebody && nat_eq now kept) }
 {
@@ -30,8 +30,8 @@ fn nothing_yet(somebody: bool, kept: usize, now: usize) -> bool
 }
 
 impl<'t> Concerned<'t> {
-    /// Appends the lines of those whom it concerns that a file at this path became another. Fails
-    /// only if memory runs out.
+    /// Appends the lines of those who gain or lose access when the file at this path becomes
+    /// another. Fails only if memory runs out.
     pub(super) fn push_impact(
         &self,
         alloc: Global,
@@ -40,10 +40,10 @@ impl<'t> Concerned<'t> {
         path: &[u8],
         out: &mut Vec<u8>,
     ) -> Result<(), AllocError>
-        ensures { OnOk result (Tells (TellsImpact (concern_of self.now) (view_acl before.now)
+        ensures { OnOk result (Reports (ReportsImpact (concern_of self.now) (view_acl before.now)
             (view_acl after.now) path.now) out.old.items out.new.items) }
     {
-        // Nobody is asked about where owner, group and list are the same, however many there are.
+        // With the same owner, group and list nobody is evaluated, however many users there are.
         if is_same_file(before, after) {
             return Ok(());
         }
@@ -55,8 +55,8 @@ impl<'t> Concerned<'t> {
         push_anybody(alloc, asked, known, before, after, path, out)
     }
 
-    /// Appends the line of a path whose file is gone, or else new, and, if each has a line, those
-    /// of who might do something with it, or may. Fails only if memory runs out.
+    /// Appends the line of a path whose file is gone, or new, and, if each user has a line, those
+    /// of users who had a permission on it, or have one. Fails only if memory runs out.
     pub(super) fn push_path(
         &self,
         gone: bool,
@@ -65,7 +65,7 @@ impl<'t> Concerned<'t> {
         out: &mut Vec<u8>,
     ) -> Result<(), AllocError>
         ensures { OnOk result (out.new.items
-            ≡ out.old.items ++ told_at gone (concern_of self.now) path.now (view_acl file.now)) }
+            ≡ out.old.items ++ reported_at gone (concern_of self.now) path.now (view_acl file.now)) }
     {
         push_path(gone, path, out)?;
         push_all_who_may(self.each, gone, file, self.people, path, out)

@@ -1,6 +1,6 @@
 //! The command `restore`.
-use super::teller::RestoreTeller;
-use crate::between::{after_field, before_field, tell_between};
+use super::reporter::RestoreReporter;
+use crate::between::{after_field, before_field, report_between};
 use acl_cli::{
     Command as CliCommand, CommandLine, Ending, ErrorOutput, Failure, Line, OpenFiles, Word,
 };
@@ -9,15 +9,15 @@ use clap::ArgMatches;
 use std::alloc::Global;
 use std::io::{Read, Write};
 
-/// What is reported, and what the exit statuses are.
+/// The end of help: the answer, and the exit statuses.
 const ANSWERS: &str = "For example:
   getfacl -Rn /srv/share > before
   getfacl -Rn /srv/share | aclctl restore before - | setfacl --restore=-
 
-The blocks of BEFORE whose path AFTER has with another text, byte for byte:
-what setfacl takes to bring back owner, group, flags, access and default list
-of every file that is still there. Paths that are new or gone are told on
-standard error: aclctl: PATH: new. So is what can't be compared:
+Prints the blocks of BEFORE whose path has another text in AFTER, byte for byte.
+setfacl takes them to restore owner, group, flags, access and default list of
+every file that still exists. Standard error names the paths that are new or
+gone, as aclctl: PATH: new, and the blocks that can't be compared, as
 aclctl: LISTING:LINE: WORD: TEXT.
 
 Exit status: 0 if every block was compared; 1 if a listing can't be opened;
@@ -25,11 +25,11 @@ Exit status: 0 if every block was compared; 1 if a listing can't be opened;
 read, or the answer can't be written; 4 if there are blocks that can't be
 compared, or a listing has none at all.";
 
-/// `restore` of two listings: what brings back the lists that there were before.
+/// `restore`: what restores the lists of the listing before.
 #[derive(Clone, Copy)]
 pub struct Restore;
 
-/// What stands in the line, in the order of help.
+/// The words of the line, in the order of help.
 const WORDS: [Word<'static>; 2] = [BEFORE, AFTER];
 
 impl CommandLine for Restore {
@@ -46,7 +46,7 @@ impl CommandLine for Restore {
     fn line() -> Line<'static> {
         Line {
             name: "restore",
-            about: "Prints what brings back the lists of files as a listing had them.",
+            about: "Prints what setfacl needs to restore the lists of an earlier listing.",
             after_help: ANSWERS,
             words: &WORDS,
         }
@@ -76,6 +76,15 @@ impl CliCommand for Restore {
     ) -> Result<Ending, Failure<'a>> {
         let before = before_field(matches);
         let after = after_field(matches);
-        tell_between(alloc, &RestoreTeller, files, before, after, input, out, err)
+        report_between(
+            alloc,
+            &RestoreReporter,
+            files,
+            before,
+            after,
+            input,
+            out,
+            err,
+        )
     }
 }

@@ -1,8 +1,8 @@
-//! Names of nobody.
+//! A resolver without names.
 
 use acl_names::{Gid, NameFault, ResolveNames, Uid};
 
-/// Knows no names, where none is asked for.
+/// Resolves no names, where none are needed.
 #[derive(Clone, Copy)]
 pub(super) struct NoNames;
 

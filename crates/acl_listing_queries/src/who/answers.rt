@@ -8,45 +8,48 @@ ghost use Rattle.acl_listings.specs.Block.{FileValue, file_by};
 ghost use Rattle.acl_listings.specs.Faults.{IsFaultOf};
 ghost use Rattle.acl_listings.specs.Lines.{after_line};
 ghost use Rattle.acl_reports.specs.Files.{file_of};
-ghost use Rattle.acl_reports.specs.Telling.{IsPart};
+ghost use Rattle.acl_reports.specs.Reporting.{IsPart, UnlessMemory};
+ghost use Rattle.acl_reports.specs.Strangers.{file_stranger, stranger_in};
+ghost use Rattle.acl_listing_queries.specs.ViaSteps.{asked_of};
 ghost use Rattle.acl_listing_queries.specs.WhoPart.{part_of};
 ghost use Rattle.acl_listing_queries.specs.WhoSteps.{AreAnswersOf, AreRight, IsAnswered};
-ghost use Rattle.acl_listing_queries.specs.WhoSteps.{IsAnsweredAt, IsInside, IsSearch, asking_of};
+ghost use Rattle.acl_listing_queries.specs.WhoSteps.{IsAnsweredAt, IsGranted, IsInside, IsSearch};
+ghost use Rattle.acl_listing_queries.specs.WhoSteps.{asking_of};
 ghost use Rattle.acl_listing_queries.specs.WhoSteps.{kept_at, names_by, question_by};
-ghost use Rattle.acl_listing_queries.specs.WhoSteps.{standings_kept, whos_of};
+ghost use Rattle.acl_listing_queries.specs.WhoSteps.{standings_kept, stranger_kept, whos_of};
 
-use super::asked::Asked;
-use super::lines::{push_letters_lines, push_may_lines, push_numbers};
+use super::asked::{Asked, What};
+use super::decided::{Decided, decided_for_each, push_decided_lines};
+use super::lines::{push_letters_lines, push_may_lines};
+use super::numbers::RecentNumbers;
 use super::way::Inside;
+use crate::places::{PLACES, place_for_text};
 use acl_access::{
     PrintedPath, Standing, letters_of_each, places_of_takers, places_of_those_who_may,
     standings_of_each, which_may,
 };
 use acl_bridge::FileAcl;
-use acl_listings::{BlockFault, FileFault, MAX_BLOCK, path_and_lines, path_of, read_file};
+use acl_listings::{FileFault, MAX_BLOCK, path_and_lines, path_of, read_file};
+use acl_names::Requester;
 use acl_nfs4::Mask;
 use acl_people::{Host, People};
 use acl_posix::Perms;
-use acl_reports::owners_and_list;
+use acl_reports::{Stranger, file_stranger, owners_and_list};
 use std::alloc::{AllocError, Global};
-
-/// Of how many files with different lines the answers are kept at once.
-const PLACES: usize = 256;
-
-/// An odd number that spreads the bits of a word (2^64 by the golden ratio).
-const FACTOR: u64 = 0x9e37_79b9_7f4a_7c15;
 
 /// What a file grants the users.
 #[derive(Drop)]
 pub(super) enum Granted {
     /// Of each user the letters `r`, `w` and `x`.
     Letters(Vec<Perms>),
-    /// The same, to be told as numbers.
+    /// The same, to be reported as numbers.
     Numbered(Vec<Perms>),
     /// Of each user all the letters.
     Masks(Vec<Mask>),
     /// The places of those users who are granted what is asked.
     Those(Vec<usize>),
+    /// What each user is granted, and the entries that decide so.
+    Entries(Vec<Option<Decided>>),
     /// How each user stands to the file.
     Standings(Vec<Standing>),
 }
@@ -59,6 +62,8 @@ pub(super) struct Kept {
     granted: Granted,
     /// Of each user whether to search it is granted, if that is asked.
     search: Vec<bool>,
+    /// The first id without an account that its block names.
+    stranger: Option<Stranger>,
 }
 
 impl Kept {
@@ -80,23 +85,6 @@ impl Kept {
     }
 }
 
-/// A place for lines, by a product over their words of 8 bytes. What is left behind the words is
-/// in the last 8 bytes, with which it begins. Each bit bears on those above it alone, so the
-/// highest are the place.
-fn place_for(lines: &[u8]) -> usize
-    ensures { result < PLACES }
-{
-    let (words, _) = lines.as_chunks::<8>();
-    let mut hash = match lines.last_chunk::<8>() {
-        Some(last) => u64::from_le_bytes(*last),
-        None => 0,
-    };
-    for word in words {
-        hash = (hash ^ u64::from_le_bytes(*word)).wrapping_mul(FACTOR);
-    }
-    ((hash >> 56) % PLACES as u64) as usize
-}
-
 /// Who is asked about, and what is asked.
 #[derive(Clone, Copy)]
 pub(super) struct Users<'t> {
@@ -106,6 +94,25 @@ pub(super) struct Users<'t> {
     pub asked: Asked,
     /// Whether it is asked who may search a file.
     pub reach: bool,
+}
+
+/// What the file grants the requesters. It fails only if memory runs out.
+fn granted_what(
+    alloc: Global,
+    requesters: &[Requester],
+    what: What,
+    file: &FileAcl<'_>,
+) -> Result<Granted, AllocError>
+    ensures { IfOk result (IsGranted requesters.now (asked_of what) (view_acl file.now)) }
+{
+    match what {
+        What::Letters => Ok(Granted::Letters(letters_of_each(alloc, requesters, file)?)),
+        What::AllLetters => Ok(Granted::Masks(letters_of_each(alloc, requesters, file)?)),
+        What::Perms(perms) => {
+            let places = places_of_those_who_may(alloc, requesters, file, perms)?;
+            Ok(Granted::Those(places))
+        }
+    }
 }
 
 impl<'t> Users<'t> {
@@ -122,13 +129,12 @@ impl<'t> Users<'t> {
     {
         let requesters = self.people.requesters.as_slice();
         match self.asked {
-            Asked::Letters => Ok(Granted::Letters(letters_of_each(alloc, requesters, file)?)),
-            Asked::Numbers => Ok(Granted::Numbered(letters_of_each(alloc, requesters, file)?)),
-            Asked::AllLetters => Ok(Granted::Masks(letters_of_each(alloc, requesters, file)?)),
-            Asked::Perms(perms) => {
-                let places = places_of_those_who_may(alloc, requesters, file, perms)?;
-                Ok(Granted::Those(places))
+            Asked::What(what) => granted_what(alloc, requesters, what, file),
+            Asked::Via(what) => {
+                let decided = decided_for_each(alloc, what, requesters, file)?;
+                Ok(Granted::Entries(decided))
             }
+            Asked::Numbers => Ok(Granted::Numbered(letters_of_each(alloc, requesters, file)?)),
             Asked::Deletion => {
                 let standings = standings_of_each(alloc, requesters, sticky, file)?;
                 Ok(Granted::Standings(standings))
@@ -160,10 +166,12 @@ impl<'t> Users<'t> {
         requires { lines.now ≡ after_line text.now }
         ensures lines { IfOk result (λ kept. kept.lines.items ≡ after_line text.now) }
         ensures answers { IfOk result (λ kept. (file : FileValue)
-            × (file_by (names_by self.now) text.now ≡ Ok file) × AreAnswersOf self.now file kept) }
+            × (file_by (names_by self.now) text.now ≡ Ok file) × AreAnswersOf self.now file kept
+            × (kept.stranger ≡ file_stranger self.now.host.now file (after_line text.now))) }
         ensures refused { IfErr result (IsFaultOf (file_by (names_by self.now) text.now)) }
     {
         let file = read_file(alloc, text, self.host)?;
+        let stranger = file_stranger(self.host, &file, lines);
         let sticky = file.flags.sticky;
         let (owners, list) = owners_and_list(alloc, file)?;
         let acl = FileAcl {
@@ -177,17 +185,20 @@ impl<'t> Users<'t> {
             lines,
             granted,
             search,
+            stranger,
         })
     }
 
-    /// Appends what is reported of a file at the path, which lies there, and whose answers these
-    /// are.
+    /// Appends what is reported for a file at the path, which lies there, and whose answers these
+    /// are, kept at the place.
     fn push(
         &self,
         alloc: Global,
+        place: usize,
         kept: &Kept,
         inside: Inside<'_>,
         path: &[u8],
+        recent: &mut RecentNumbers,
         out: &mut Vec<u8>,
     ) -> Result<(), FileFault>
         ensures { (file : FileValue) (sticky : Bool) (way : List File)
@@ -202,7 +213,7 @@ impl<'t> Users<'t> {
                 push_letters_lines(names, letters.as_slice(), reach, path, out)?;
             }
             Granted::Numbered(letters) => {
-                push_numbers(names, letters.as_slice(), reach, out)?;
+                recent.push(alloc, place, names, letters.as_slice(), reach, out)?;
             }
             Granted::Masks(masks) => {
                 push_letters_lines(names, masks.as_slice(), reach, path, out)?;
@@ -210,9 +221,12 @@ impl<'t> Users<'t> {
             Granted::Those(places) => {
                 push_may_lines(names, places.as_slice(), reach, path, out)?;
             }
+            Granted::Entries(decided) => {
+                push_decided_lines(names, decided.as_slice(), reach, path, out)?;
+            }
             Granted::Standings(standings) => {
                 let Some(folder) = inside.folder else {
-                    return Err(FileFault::Block(BlockFault::UnknownWay));
+                    return Ok(());
                 };
                 let places = places_of_takers(alloc, folder, standings.as_slice())?;
                 push_may_lines(names, places.as_slice(), reach, path, out)?;
@@ -222,11 +236,24 @@ impl<'t> Users<'t> {
     }
 }
 
+/// What was kept at the place.
+fn kept_at(kept: &[Option<Kept>], place: usize) -> Option<&Kept>
+    ensures { option_map (λ kept. kept.now) result ≡ kept_at kept.now place }
+{
+    match kept.get(place) {
+        Some(Some(kept)) => Some(kept),
+        _ => None,
+    }
+}
+
 /// Answers of files, by the lines of their blocks.
 #[derive(Drop)]
 pub(super) struct Answers<'t> {
     users: Users<'t>,
     kept: Vec<Option<Kept>>,
+    recent: RecentNumbers,
+    /// The first id without an account that the block names which was looked up last.
+    found: Option<Stranger>,
 }
 
 impl<'t> Answers<'t> {
@@ -239,16 +266,36 @@ impl<'t> Answers<'t> {
         for _ in 0..PLACES {
             kept.push(None)?;
         }
-        Ok(Answers { users, kept })
+        let recent = RecentNumbers::new(alloc)?;
+        Ok(Answers {
+            users,
+            kept,
+            found: None,
+            recent,
+        })
     }
 
     /// What was kept at the place.
     pub fn at(&self, place: usize) -> Option<&Kept>
         ensures { option_map (λ kept. kept.now) result ≡ kept_at self.now.kept.items place }
     {
-        match self.kept.get(place) {
-            Some(Some(kept)) => Some(kept),
-            _ => None,
+        kept_at(self.kept.as_slice(), place)
+    }
+
+    /// The first id without an account that the block names which was looked up last.
+    pub fn found(&self) -> Option<Stranger>
+        ensures { result ≡ self.now.found }
+    {
+        self.found
+    }
+
+    /// The first id without an account that the block names whose answers are kept at the place.
+    fn stranger_at(&self, place: usize) -> Option<Stranger>
+        ensures { result ≡ stranger_kept (kept_at self.now.kept.items place) }
+    {
+        match self.at(place) {
+            Some(kept) => kept.stranger,
+            None => None,
         }
     }
 
@@ -272,39 +319,47 @@ impl<'t> Answers<'t> {
             × IsAnsweredAt self.new place file) }
         ensures refused { IfErr result
             (IsFaultOf (file_by (names_by self.old.users) text.now)) }
+        ensures stranger { AreRight self.old → UnlessMemory result
+            (self.new.found ≡ stranger_in self.old.users.host.now text.now) }
     {
         let (path, lines) = path_and_lines(text);
-        let place = place_for(lines);
+        let place = place_for_text(lines);
         if text.len() <= MAX_BLOCK && path.is_some() && self.is_of(place, lines) {
+            self.found = self.stranger_at(place);
             return Ok(place);
         }
+        self.found = None;
         let kept = self.users.answer(alloc, text, lines)?;
+        self.found = kept.stranger;
         if place < self.kept.len() {
             self.kept[place] = Some(kept);
         }
         Ok(place)
     }
 
-    /// Appends what is reported of the file of the block, which lies there, and whose answers are
+    /// Appends what is reported for the file of the block, which lies there, and whose answers are
     /// kept at the place.
     pub fn push_at(
-        &self,
+        &mut self,
         alloc: Global,
         place: usize,
         inside: Inside<'_>,
         text: &[u8],
         out: &mut Vec<u8>,
     ) -> Result<(), FileFault>
-        ensures { (file : FileValue) (sticky : Bool) (way : List File)
-            → file_by (names_by self.now.users) text.now ≡ Ok file
-            → IsAnsweredAt self.now place file → IsInside self.now.users sticky way inside.entry
-            → IsPart (part_of (asking_of self.now.users).persons (question_by self.now.users) sticky
+        ensures same { self.new ≡ self.old }
+        ensures reported { (file : FileValue) (sticky : Bool) (way : List File)
+            → file_by (names_by self.old.users) text.now ≡ Ok file
+            → IsAnsweredAt self.old place file → IsInside self.old.users sticky way inside.entry
+            → IsPart (part_of (asking_of self.old.users).persons (question_by self.old.users) sticky
             way (printed_path file.path) (file_of file)) result out.old.items out.new.items }
     {
-        match (self.at(place), path_of(text)) {
+        match (kept_at(self.kept.as_slice(), place), path_of(text)) {
             (Some(kept), Some(path)) => {
                 let printed = PrintedPath::of(alloc, path)?;
-                self.users.push(alloc, kept, inside, printed.bytes(), out)
+                let recent = &mut self.recent;
+                self.users
+                    .push(alloc, place, kept, inside, printed.bytes(), recent, out)
             }
             _ => Ok(()),
         }

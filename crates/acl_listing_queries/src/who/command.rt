@@ -2,15 +2,15 @@
 ghost use Rattle.std.specs.Prelude.{◌≡◌, IfOk};
 ghost use Rattle.clap.specs.Words.{found_of, rows_of};
 ghost use Rattle.acl_cli.specs.Commands.{Comes};
-ghost use Rattle.acl_reports.specs.ListingMeaning.{listing_meaning};
+ghost use Rattle.acl_reports.specs.ListingMeaning.{naming_meaning};
 ghost use Rattle.acl_listing_queries.specs.WhoMeaning.{reach_in};
 ghost use Rattle.acl_listing_queries.specs.WhoPart.{who_part};
-ghost use Rattle.acl_listing_queries.specs.WhoSteps.{IsEveryone, asking_of};
+ghost use Rattle.acl_listing_queries.specs.WhoSteps.{IsEveryone, asking_of, stranger_by};
 
 use super::answers::{Answers, Users};
 use super::asked::asked_field;
-use super::listed::ListedTeller;
-use super::reach::ReachTeller;
+use super::listed::ListedReporter;
+use super::reach::ReachReporter;
 use acl_cli::fields::flag_field;
 use acl_cli::options::OPTIONAL_PERMS;
 use acl_cli::{
@@ -20,35 +20,42 @@ use acl_names::Requester;
 use acl_people::options::{ACCOUNTS, DOMAIN, USERS};
 use acl_people::{read_host, read_people};
 use acl_reports::options::LISTING;
-use acl_reports::{listing_field, tell_named};
+use acl_reports::{listing_field, report_named};
 use clap::ArgMatches;
 use std::alloc::{AllocError, Global};
 use std::io::{Read, Write};
 
-/// What is reported, and what the exit statuses are.
+/// The end of help: the answer, and the exit statuses.
 const ANSWERS: &str = "For example:
-  getfacl -Rn /srv/share | aclctl who --reach --perms w -
+  getfacl -Rnp /srv/share | aclctl who --reach --perms w -
 
-A line for each file and each user who may do something with it:
+Prints a line for each file and each user who has a permission on it:
 LETTERS NAME PATH, where - is a letter that is denied by itself. With --letters
-they are all fourteen; of a POSIX list w is w and p there. With --perms P only
-NAME PATH, of those who are granted all of P at once. With --delete also, of
-those who reach the file and may delete, rename or replace it. What isn't
-answered is said on standard error: aclctl: LISTING:LINE: WORD: TEXT. uid 0
-isn't asked about: it may do nearly everything.
+these are all fourteen; w of a POSIX list is w and p there. With --perms P it
+prints NAME PATH, for users who are granted all of P at once. With --delete it
+prints NAME PATH, for users who reach the file and may delete, rename or replace
+it; a path without a listed parent folder isn't evaluated. With --via it prints
+VIA before PATH, the entries of the file's list that decide, with commas: owner,
+user (the user's own entry), group (the file's), group:GID, other, and mask if
+it takes something from one of these; for an NFSv4 list their numbers, from 1.
+Blocks that can't be evaluated go to standard error, as
+aclctl: LISTING:LINE: WORD: TEXT; and at the end how many files name ids without
+an account, and the first id.
+uid 0 is never evaluated: it may do nearly everything.
 
-Exit status: 0 if every file was answered; 1 if a field is malformed or a file
+Exit status: 0 if every file was evaluated; 1 if a field is malformed or a file
 can't be read; 2 if the words are wrong; 3 if memory runs out, the listing
-fails while it is read, or the answer can't be written; 4 if there are files
-that weren't answered, or none at all.";
+fails while it is read, or the answer can't be written; 4 if some files, or all,
+can't be evaluated, or the listing has none.";
 
-/// Tells who may do what with each file of a listing: `who [--accounts FILE] [--domain DOMAIN]
-/// [--perms P | --letters | --delete] [--reach] [--user NAME].. LISTING`.
+/// Reports who may do what with each file of a listing: `who [--accounts FILE] [--domain DOMAIN]
+/// [--perms P | --letters | --delete] [--reach] [--via] [--user NAME].. LISTING`.
 ///
 /// LISTING is read as it comes: of `-` what `input` has, else a file of `files`, which leaves
 /// `input` as it is. To `out` goes a line for each file and each user who may do something with it,
 /// in pieces of some 64 KiB; to `err` one for each block of which that isn't known, and at the end
-/// how many these are. The answer is one in part if there is such a block, or none at all.
+/// how many these are, and how many files name ids that no account has. The answer is one in part
+/// if something of a block isn't known, or there is none.
 ///
 /// Fails if the words don't go together, P is malformed, a file can't be read or is malformed, or
 /// nobody has a NAME: then nothing was written. Fails also if memory runs out, the listing can't be
@@ -56,8 +63,8 @@ that weren't answered, or none at all.";
 #[derive(Clone, Copy)]
 pub struct Who;
 
-/// What stands in the line, in the order of help.
-const WORDS: [Word<'static>; 8] = [
+/// The words of the line, in the order of help.
+const WORDS: [Word<'static>; 9] = [
     ACCOUNTS,
     DOMAIN,
     OPTIONAL_PERMS,
@@ -65,19 +72,25 @@ const WORDS: [Word<'static>; 8] = [
         given: Given::Flag,
         name: "letters",
         value: "",
-        help: "All fourteen letters of an NFSv4 list, rwxpdDaARWcCos, in place of r, w and x",
+        help: "Prints all fourteen letters of an NFSv4 list, rwxpdDaARWcCos, instead of r, w and x",
     },
     Word {
         given: Given::Flag,
         name: "delete",
         value: "",
-        help: "Who may delete, rename or replace it, in the folder in which it is",
+        help: "Prints who may delete, rename or replace the file in its folder",
     },
     Word {
         given: Given::Flag,
         name: "reach",
         value: "",
-        help: "Counts something only if the user may also search each folder above",
+        help: "Prints only users who may also search each parent folder in the listing",
+    },
+    Word {
+        given: Given::Flag,
+        name: "via",
+        value: "",
+        help: "Also prints which entries of the list decide, before the path",
     },
     USERS,
     LISTING,
@@ -96,14 +109,14 @@ impl CommandLine for Who {
     fn line() -> Line<'static> {
         Line {
             name: "who",
-            about: "Tells who may do what with each file of a listing, as getfacl -R prints it.",
+            about: "Reports who may do what with each file of a listing that getfacl -R prints.",
             after_help: ANSWERS,
             words: &WORDS,
         }
     }
 }
 
-/// Of each of the requesters that it is set.
+/// `true` for each of the requesters.
 pub(super) fn everyone(alloc: Global, requesters: &[Requester]) -> Result<Vec<bool>, AllocError>
     ensures { IfOk result (λ marks. IsEveryone requesters.now marks.items) }
 {
@@ -114,15 +127,15 @@ pub(super) fn everyone(alloc: Global, requesters: &[Requester]) -> Result<Vec<bo
     Ok(marks)
 }
 
-/// Whether only those count who may search each folder above a file.
+/// Whether `--reach` is given.
 fn reach_field(matches: &ArgMatches<'_>) -> bool
     ensures { result ≡ reach_in (rows_of (found_of matches.now)) }
 {
     flag_field(matches, "reach") || flag_field(matches, "delete")
 }
 
-/// Writes what is reported of each block of the listing of this name.
-fn tell_who<'n, F, I, W, E>(
+/// Writes the report on each block of the listing of this name.
+fn report_who<'n, F, I, W, E>(
     alloc: Global,
     files: &F,
     name: &'n str,
@@ -136,18 +149,18 @@ where
     I: Read,
     W: Write,
     E: Write + Drop,
-    ensures { Comes (listing_meaning (F.bytes_of files.now) (I.remaining input.old) name.entry.now
-        (asking_of users.entry).names (who_part (asking_of users.entry))) result
-        (W.contents out.old) (W.contents out.new) err.old err.new input.old input.new }
+    ensures { Comes (naming_meaning (F.bytes_of files.now) (I.remaining input.old) name.entry.now
+        (asking_of users.entry).names (who_part (asking_of users.entry)) (stranger_by users.entry))
+        result (W.contents out.old) (W.contents out.new) err.old err.new input.old input.new }
 {
     let answers = Answers::new(alloc, users)?;
     let everyone = everyone(alloc, users.people.requesters.as_slice())?;
     if users.reach {
-        let teller = ReachTeller::new(alloc, answers, everyone);
-        return tell_named(alloc, files, name, users.host, teller, input, out, err);
+        let reporter = ReachReporter::new(alloc, answers, everyone);
+        return report_named(alloc, files, name, users.host, reporter, input, out, err);
     }
-    let teller = ListedTeller::new(answers, everyone);
-    tell_named(alloc, files, name, users.host, teller, input, out, err)
+    let reporter = ListedReporter::new(answers, everyone);
+    report_named(alloc, files, name, users.host, reporter, input, out, err)
 }
 
 impl CliCommand for Who {
@@ -180,6 +193,6 @@ impl CliCommand for Who {
             asked,
             reach: reach_field(matches),
         };
-        tell_who(alloc, files, listing_field(matches), users, input, out, err)
+        report_who(alloc, files, listing_field(matches), users, input, out, err)
     }
 }

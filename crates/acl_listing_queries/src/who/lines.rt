@@ -1,4 +1,4 @@
-//! The lines of a file, of people by their places.
+//! The lines of a file, for users by their places.
 ghost use Rattle.std.specs.Prelude.{◌≡◌, ◌++◌, OnOk, map};
 ghost use Rattle.acl_posix.specs.Perms.{bits_of};
 ghost use Rattle.acl_listing_queries.specs.WhoSteps.{letters_lines, may_line_at, may_lines};
@@ -10,7 +10,7 @@ use acl_posix::Perms;
 use bitflags::Flags;
 use std::alloc::AllocError;
 
-/// Appends the line of somebody who has a letter.
+/// Appends the line of a user, if there is a letter.
 fn push_letters_if<L: LetterSet>(
     path: &[u8],
     name: &[u8],
@@ -26,8 +26,8 @@ fn push_letters_if<L: LetterSet>(
     push_letters_line(path, name, letters, out)
 }
 
-/// Appends a line for each of the names, in their order: the letters at the name's place, if it is
-/// one of those that reach the file and has any, the name, and the path.
+/// Appends a line for each of the names, in their order, whose user reaches the file and has a
+/// letter: the letters, the name, and the path.
 pub(super) fn push_letters_lines<L: LetterSet>(
     names: &[Vec<u8>],
     letters: &[L],
@@ -45,8 +45,7 @@ pub(super) fn push_letters_lines<L: LetterSet>(
     Ok(())
 }
 
-/// Appends the number of the permissions at the place, if somebody is there: 0 for one who doesn't
-/// reach the file.
+/// Appends the number of the permissions at the place: 0 if its user doesn't reach the file.
 fn push_number_at(
     letters: &[Perms],
     reach: &[bool],
@@ -63,8 +62,8 @@ fn push_number_at(
     Ok(())
 }
 
-/// Appends a byte for each of the names, in their order: the number of the permissions at the
-/// name's place, if it is one of those that reach the file, and else 0.
+/// Appends a byte for each of the names, in their order: the number of its user's permissions, or 0
+/// if the user doesn't reach the file.
 pub(super) fn push_numbers(
     names: &[Vec<u8>],
     letters: &[Perms],
@@ -80,7 +79,7 @@ pub(super) fn push_numbers(
     Ok(())
 }
 
-/// Appends the line of the name at the place, if it is one of those that reach the file.
+/// Appends the line of the name at the place, if its user reaches the file.
 fn push_may_line_at(
     names: &[Vec<u8>],
     place: usize,
@@ -100,7 +99,8 @@ fn push_may_line_at(
     }
 }
 
-/// Appends a line for each of the names at the places who reach the file: the name and the path.
+/// Appends a line for each of the names at the places whose user reaches the file: the name and the
+/// path.
 pub(super) fn push_may_lines(
     names: &[Vec<u8>],
     places: &[usize],

@@ -1,39 +1,43 @@
-//! What `who` tells of a block of a listing by itself.
+//! What `who` prints for a block without regard to its parents.
 ghost use Rattle.std.specs.Prelude.{◌≡◌, [], false};
 ghost use Rattle.acl_listing_queries.specs.WhoSteps.{AreRight, IsEveryone, IsListing, whos_of};
 
 use super::answers::Answers;
 use super::way::Inside;
 use acl_listings::FileFault;
-use acl_reports::BlockTeller;
+use acl_reports::{BlockReporter, Stranger};
 use std::alloc::Global;
 
-/// Tells which letters each user has; or, with permissions, who is granted these.
+/// Prints what each user is granted, whatever the parent folders grant.
 #[derive(Drop)]
-pub(super) struct ListedTeller<'t> {
+pub(super) struct ListedReporter<'t> {
     answers: Answers<'t>,
-    /// Every user's place is set.
+    /// `true` for every user.
     everyone: Vec<bool>,
 }
 
-impl<'t> ListedTeller<'t> {
-    /// No block was met.
-    pub fn new(answers: Answers<'t>, everyone: Vec<bool>) -> ListedTeller<'t>
+impl<'t> ListedReporter<'t> {
+    /// Before any block.
+    pub fn new(answers: Answers<'t>, everyone: Vec<bool>) -> ListedReporter<'t>
         ensures users { result.answers.users ≡ answers.entry.users }
         ensures stands { AreRight answers.entry → answers.entry.users.reach ≡ false
             → IsEveryone (whos_of answers.entry.users) everyone.items → IsListing result [] }
     {
-        ListedTeller { answers, everyone }
+        ListedReporter { answers, everyone }
     }
 }
 
-impl<'t> BlockTeller for ListedTeller<'t> {
+impl<'t> BlockReporter for ListedReporter<'t> {
     ghost use Rattle.acl_listing_queries.specs.WhoPart.{who_part};
-    ghost use Rattle.acl_listing_queries.specs.WhoSteps.{IsListing, asking_of};
+    ghost use Rattle.acl_listing_queries.specs.WhoSteps.{IsListing, asking_of, stranger_by};
 
     ghost Stands = { IsListing };
 
-    ghost part = { λ teller. who_part (asking_of teller.answers.users) };
+    ghost part = { λ reporter. who_part (asking_of reporter.answers.users) };
+
+    ghost stranger = { λ reporter. stranger_by reporter.answers.users };
+
+    ghost found = { λ reporter. reporter.answers.found };
 
     fn push(&mut self, alloc: Global, text: &[u8], out: &mut Vec<u8>) -> Result<(), FileFault> {
         let place = self.answers.find(alloc, text)?;
@@ -42,5 +46,9 @@ impl<'t> BlockTeller for ListedTeller<'t> {
             folder: None,
         };
         self.answers.push_at(alloc, place, inside, text, out)
+    }
+
+    fn found(&self) -> Option<Stranger> {
+        self.answers.found()
     }
 }

@@ -1,4 +1,4 @@
-//! What `who --reach` tells, as numbers.
+//! What `who --reach` prints, as numbers.
 ghost use Rattle.std.specs.Prelude.{◌≡◌, [], IfOk};
 ghost use Rattle.acl_people.specs.Asked.{persons_in};
 ghost use Rattle.acl_people.specs.Host.{names_of_host};
@@ -8,21 +8,21 @@ ghost use Rattle.acl_listing_queries.specs.WhoSteps.{IsOnWay, asking_of};
 use super::answers::{Answers, Users};
 use super::asked::Asked;
 use super::command::everyone;
-use super::reach::ReachTeller;
+use super::reach::ReachReporter;
 use acl_people::{Host, People};
 use std::alloc::{AllocError, Global};
 
-/// Tells of each block of a listing, by whose names it is read, a byte for each of these people:
-/// the number of the letters that `who --reach` has for them, 4 for `r`, 2 for `w`, 1 for `x`, and
-/// 0 where it has no line. It fails only if memory runs out.
+/// A reporter that appends, for each block of a listing, a byte for each of these people: the
+/// number of the letters that `who --reach` prints for them, 4 for `r`, 2 for `w`, 1 for `x`, and 0
+/// for no line. The names in blocks are those of `host`. Fails only if memory runs out.
 pub fn letters_by_reach<'t>(
     alloc: Global,
     host: &'t Host,
     people: &'t People,
-) -> Result<ReachTeller<'t>, AllocError>
-    ensures part { IfOk result (λ teller. who_part (asking_of teller.answers.users)
+) -> Result<ReachReporter<'t>, AllocError>
+    ensures part { IfOk result (λ reporter. who_part (asking_of reporter.answers.users)
         ≡ who_part (letters_asked (names_of_host host.entry.now) (persons_in people.entry.now))) }
-    ensures stands { IfOk result (λ teller. IsOnWay teller []) }
+    ensures stands { IfOk result (λ reporter. IsOnWay reporter []) }
 {
     let users = Users {
         host,
@@ -32,5 +32,5 @@ pub fn letters_by_reach<'t>(
     };
     let answers = Answers::new(alloc, users)?;
     let everyone = everyone(alloc, people.requesters.as_slice())?;
-    Ok(ReachTeller::new(alloc, answers, everyone))
+    Ok(ReachReporter::new(alloc, answers, everyone))
 }

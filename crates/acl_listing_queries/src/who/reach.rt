@@ -1,9 +1,9 @@
-//! What `who` tells of a block of a listing, if only those count who reach its file.
+//! What `who` prints for a block, for the users who reach its file.
 ghost use Rattle.std.specs.Prelude.{◌≡◌, ◌++◌, ◌∷◌, [], Bool, false, true, IfOk, List, OnOk, ℕ};
 ghost use Rattle.std.specs.Prelude.{None, Ok, Some, if◌then◌else◌, option_map};
 ghost use Rattle.std.specs.List.{fold, list_any};
 ghost use Rattle.acl_listings.specs.Block.{FileValue, file_by, path_of};
-ghost use Rattle.acl_reports.specs.Telling.{IsPart, UnlessMemory};
+ghost use Rattle.acl_reports.specs.Reporting.{IsPart, UnlessMemory};
 ghost use Rattle.acl_listing_queries.specs.Readings.{Reading, reading_of};
 ghost use Rattle.acl_listing_queries.specs.Ways.{chain_to, is_sticky, way_of, way_on};
 ghost use Rattle.acl_listing_queries.specs.WhoPart.{part_on, who_part};
@@ -11,50 +11,48 @@ ghost use Rattle.acl_listing_queries.specs.WhoSteps.{AreFolders, AreRight, IsAns
 ghost use Rattle.acl_listing_queries.specs.WhoSteps.{IsBehind, IsCome, IsEveryone, IsOnWay};
 ghost use Rattle.acl_listing_queries.specs.WhoSteps.{IsPlacedAt, asking_of, folders_to};
 ghost use Rattle.acl_listing_queries.specs.WhoSteps.{lacks_path, marks_of, names_by, question_by};
-ghost use Rattle.acl_listing_queries.specs.WhoSteps.{standings_for, whos_of};
+ghost use Rattle.acl_listing_queries.specs.WhoSteps.{standings_for, stranger_by, whos_of};
 ghost use Rattle.acl_listing_queries.specs.declared.who.reach.Before.{Before as BeforeValue};
 
 use super::answers::Answers;
 use super::way::{Folder, inside_of, leave, reach_of};
-use crate::above::is_above;
 use crate::beginning::Beginning;
 use acl_access::{Standing, both};
-use acl_listings::{BlockFault, FileFault, path_of};
-use acl_reports::BlockTeller;
+use acl_listings::{BlockFault, FileFault, is_above, path_of};
+use acl_reports::{BlockReporter, Stranger};
 use std::alloc::{AllocError, Global};
 
-/// The block before.
+/// The previous block.
 #[derive(Drop)]
 pub(super) struct Before {
     path: Vec<u8>,
-    /// Where its file's answers are kept, if the block reads.
+    /// The place of its file's answer, unless the block is malformed.
     place: Option<usize>,
 }
 
-/// Tells which letters each user has, or who is granted permissions: of those alone who may search
-/// each folder above the file.
+/// Prints what each user is granted who may also search each parent folder of the file.
 #[derive(Drop)]
-pub struct ReachTeller<'t> {
+pub struct ReachReporter<'t> {
     answers: Answers<'t>,
-    /// Every user's place is set.
+    /// `true` for every user.
     everyone: Vec<bool>,
-    /// Where the way to the block before begins.
+    /// Where the way to the previous block begins.
     beginning: Beginning,
-    /// The folders above the block before.
+    /// The parent folders of the previous block.
     folders: Vec<Folder>,
     before: Option<Before>,
-    /// Whether a block's path didn't read, which may be above all that comes after it.
+    /// Whether a block had no readable path: it may be a parent of everything after it.
     lost: bool,
 }
 
-impl<'t> ReachTeller<'t> {
-    /// No block was met.
-    pub(super) fn new(alloc: Global, answers: Answers<'t>, everyone: Vec<bool>) -> ReachTeller<'t>
+impl<'t> ReachReporter<'t> {
+    /// Before any block.
+    pub(super) fn new(alloc: Global, answers: Answers<'t>, everyone: Vec<bool>) -> ReachReporter<'t>
         ensures users { result.answers.users ≡ answers.entry.users }
         ensures stands { AreRight answers.entry → answers.entry.users.reach ≡ true
             → IsEveryone (whos_of answers.entry.users) everyone.items → IsOnWay result [] }
     {
-        ReachTeller {
+        ReachReporter {
             answers,
             everyone,
             beginning: Beginning::new(alloc),
@@ -64,8 +62,8 @@ impl<'t> ReachTeller<'t> {
         }
     }
 
-    /// Of each user whether the block before and each folder above it may be searched; none if that
-    /// isn't known.
+    /// Whether each user may search the previous block's file and each of its parents; `None` if
+    /// that isn't known.
     fn reach_below(&self, alloc: Global, before: &Before) -> Result<Option<Vec<bool>>, AllocError>
         ensures { (block : Reading) (way : List Reading)
             → self.now.answers.users.reach ≡ true
@@ -87,7 +85,7 @@ impl<'t> ReachTeller<'t> {
         }
     }
 
-    /// How each user stands to the block before, if that is asked.
+    /// The standing of each user to the previous block's file; empty unless that is needed.
     fn standings(&self, alloc: Global, before: &Before) -> Result<Vec<Standing>, AllocError>
         ensures { (block : Reading) → IsPlacedAt self.now.answers before.now.place block
             → IfOk result (λ standings. standings.items
@@ -103,7 +101,7 @@ impl<'t> ReachTeller<'t> {
         }
     }
 
-    /// Goes on from the block before to the path.
+    /// Goes on from the previous block to the path: finds the parent folders.
     fn come_to(&mut self, alloc: Global, path: &[u8]) -> Result<(), AllocError>
         ensures answers { self.new.answers ≡ self.old.answers }
         ensures everyone { self.new.everyone ≡ self.old.everyone }
@@ -134,10 +132,10 @@ impl<'t> ReachTeller<'t> {
         Ok(())
     }
 
-    /// Appends what is reported of the file of the block, to whose path the way has come, which
-    /// begins apart from the others or not, and whose answers are kept at the place.
+    /// Appends the report on the block's file, whose parents were found and whose answer is at the
+    /// place. `apart` is whether all ways begin apart.
     fn push_here(
-        &self,
+        &mut self,
         alloc: Global,
         apart: bool,
         place: usize,
@@ -145,14 +143,15 @@ impl<'t> ReachTeller<'t> {
         text: &[u8],
         out: &mut Vec<u8>,
     ) -> Result<(), FileFault>
-        ensures { (way : List Reading) (begins_apart : Bool) (file : FileValue)
-            → IsCome self.now way → (self.now.lost ≡ false → apart ≡ begins_apart)
+        ensures same { self.new ≡ self.old }
+        ensures reported { (way : List Reading) (begins_apart : Bool) (file : FileValue)
+            → IsCome self.old way → (self.old.lost ≡ false → apart ≡ begins_apart)
             → path_of text.now ≡ Some path.now
-            → file_by (names_by self.now.answers.users) text.now ≡ Ok file
-            → IsAnsweredAt self.now.answers place file
-            → IsPart (part_on (asking_of self.now.answers.users) (is_sticky way) file
+            → file_by (names_by self.old.answers.users) text.now ≡ Ok file
+            → IsAnsweredAt self.old.answers place file
+            → IsPart (part_on (asking_of self.old.answers.users) (is_sticky way) file
             (if begins_apart
-            then chain_to way (reading_of (names_by self.now.answers.users) text.now) else None))
+            then chain_to way (reading_of (names_by self.old.answers.users) text.now) else None))
             result out.old.items out.new.items }
     {
         if self.lost {
@@ -167,7 +166,7 @@ impl<'t> ReachTeller<'t> {
         }
     }
 
-    /// Stands behind a block with this path, whose answers are kept there.
+    /// Makes a block with this path, and its answer at the place, the previous block.
     fn stand_at(
         &mut self,
         alloc: Global,
@@ -184,7 +183,7 @@ impl<'t> ReachTeller<'t> {
         Ok(())
     }
 
-    /// Appends what is reported of the block, which has this path, and goes on to it.
+    /// Appends the report on the block, which has this path, and makes it the previous block.
     fn push_at(
         &mut self,
         alloc: Global,
@@ -196,18 +195,21 @@ impl<'t> ReachTeller<'t> {
         ensures stands { (earlier : List (List ℕ)) → IsOnWay self.old earlier
             → path_of text.now ≡ Some path.now
             → UnlessMemory result (IsOnWay self.new (earlier ++ text.now ∷ [])) }
-        ensures told { (earlier : List (List ℕ)) → IsOnWay self.old earlier
+        ensures reported { (earlier : List (List ℕ)) → IsOnWay self.old earlier
             → path_of text.now ≡ Some path.now
             → IsPart (who_part (asking_of self.old.answers.users) earlier text.now) result
             out.old.items out.new.items }
+        ensures found { (earlier : List (List ℕ)) → IsOnWay self.old earlier
+            → path_of text.now ≡ Some path.now → UnlessMemory result
+            (self.new.answers.found ≡ stranger_by self.old.answers.users text.now) }
     {
         let apart = self.beginning.come_to(alloc, path)?;
         self.come_to(alloc, path)?;
         match self.answers.find(alloc, text) {
             Ok(place) => {
-                let told = self.push_here(alloc, apart, place, path, text, out);
+                let reported = self.push_here(alloc, apart, place, path, text, out);
                 self.stand_at(alloc, path, Some(place))?;
-                told
+                reported
             }
             Err(FileFault::Block(fault)) => {
                 self.stand_at(alloc, path, None)?;
@@ -217,16 +219,18 @@ impl<'t> ReachTeller<'t> {
         }
     }
 
-    /// Reads a block without a path, behind which no way is known.
+    /// Reads a block without a path, after which no way is known.
     fn push_lost(&mut self, alloc: Global, text: &[u8]) -> Result<(), FileFault>
         ensures users { self.new.answers.users ≡ self.old.answers.users }
         ensures stands { (earlier : List (List ℕ)) → IsOnWay self.old earlier
             → path_of text.now ≡ None
             → UnlessMemory result (IsOnWay self.new (earlier ++ text.now ∷ [])) }
-        ensures told { (earlier : List (List ℕ)) → IsOnWay self.old earlier
+        ensures reported { (earlier : List (List ℕ)) → IsOnWay self.old earlier
             → path_of text.now ≡ None
             → (old : List ℕ) → IsPart (who_part (asking_of self.old.answers.users) earlier text.now)
             result old old }
+        ensures found { (earlier : List (List ℕ)) → IsOnWay self.old earlier → UnlessMemory result
+            (self.new.answers.found ≡ stranger_by self.old.answers.users text.now) }
     {
         self.lost = true;
         match self.answers.find(alloc, text) {
@@ -236,18 +240,26 @@ impl<'t> ReachTeller<'t> {
     }
 }
 
-impl<'t> BlockTeller for ReachTeller<'t> {
+impl<'t> BlockReporter for ReachReporter<'t> {
     ghost use Rattle.acl_listing_queries.specs.WhoPart.{who_part};
-    ghost use Rattle.acl_listing_queries.specs.WhoSteps.{IsOnWay, asking_of};
+    ghost use Rattle.acl_listing_queries.specs.WhoSteps.{IsOnWay, asking_of, stranger_by};
 
     ghost Stands = { IsOnWay };
 
-    ghost part = { λ teller. who_part (asking_of teller.answers.users) };
+    ghost part = { λ reporter. who_part (asking_of reporter.answers.users) };
+
+    ghost stranger = { λ reporter. stranger_by reporter.answers.users };
+
+    ghost found = { λ reporter. reporter.answers.found };
 
     fn push(&mut self, alloc: Global, text: &[u8], out: &mut Vec<u8>) -> Result<(), FileFault> {
         match path_of(text) {
             Some(path) => self.push_at(alloc, path, text, out),
             None => self.push_lost(alloc, text),
         }
+    }
+
+    fn found(&self) -> Option<Stranger> {
+        self.answers.found()
     }
 }

@@ -1,4 +1,4 @@
-//! The folders on the way to a file of a listing.
+//! The parent folders of a file of a listing.
 ghost use Rattle.std.specs.Prelude.{◌≡◌, List, Some, false, option_map};
 ghost use Rattle.std.specs.List.{list_any};
 ghost use Rattle.acl_listing_queries.specs.Readings.{Reading};
@@ -7,30 +7,29 @@ ghost use Rattle.acl_listing_queries.specs.WhoSteps.{AreFolders, IsChain, IsEver
 ghost use Rattle.acl_listing_queries.specs.WhoSteps.{lacks_path, marks_of, whos_of};
 ghost use Rattle.acl_listing_queries.specs.declared.who.answers.Users.{Users};
 
-use crate::above::is_above;
 use acl_access::Standing;
-use acl_listings::{Place, place_below};
+use acl_listings::{Place, is_above, place_below};
 
-/// A folder on the way.
+/// A parent folder.
 #[derive(Drop)]
 pub(super) struct Folder {
     pub path: Vec<u8>,
-    /// Of each user whether it and each folder above it may be searched; none if that isn't known.
+    /// Whether each user may search it and each of its parents; `None` if that isn't known.
     pub reach: Option<Vec<bool>>,
-    /// How each user stands to it, if that is asked.
+    /// The standing of each user to it; empty unless that is needed.
     pub standings: Vec<Standing>,
 }
 
-/// Where a file lies.
+/// The parents of a file.
 #[derive(Clone, Copy)]
 pub(super) struct Inside<'t> {
-    /// Of each user whether each folder on the way may be searched.
+    /// Whether each user may search all of them.
     pub reach: &'t [bool],
-    /// How each user stands to the nearest folder, if there is one.
+    /// The standing of each user to the nearest, if there is one.
     pub folder: Option<&'t [Standing]>,
 }
 
-/// Leaves the folders that the path isn't below.
+/// Drops the folders that aren't parents of the path.
 pub(super) fn leave(folders: &mut Vec<Folder>, path: &[u8])
     ensures { (users : Users) (way : List Reading) (here : Reading)
         → here.path ≡ Some path.now → IsChain way → list_any lacks_path way ≡ false
@@ -41,13 +40,13 @@ pub(super) fn leave(folders: &mut Vec<Folder>, path: &[u8])
         if is_above(folder.path.as_slice(), path) {
             return;
         }
-        // What is left is of no use any more.
+        // The rest isn't needed any more.
         let _ = folders.pop();
     }
 }
 
-/// Of each user whether each of the folders may be searched that are on the way to the path; none
-/// if that isn't known. Whoever asks reaches where the listing begins.
+/// Whether each user may search all folders that are parents of the path; `None` if that isn't
+/// known. Everyone reaches the place where the listing begins.
 pub(super) fn reach_of<'t>(
     folders: &'t [Folder],
     everyone: &'t [bool],
@@ -67,7 +66,7 @@ pub(super) fn reach_of<'t>(
     }
 }
 
-/// Where a file at the path lies; none if that isn't known.
+/// The parents of a file at the path; `None` if they aren't known.
 pub(super) fn inside_of<'t>(
     folders: &'t [Folder],
     everyone: &'t [bool],

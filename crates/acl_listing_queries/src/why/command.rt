@@ -7,13 +7,14 @@ ghost use Rattle.acl_listing_queries.specs.WhyMeaning.{path_in, path_meaning, us
 ghost use Rattle.acl_listing_queries.specs.WhySteps.{asked_by};
 
 use super::answer::Made;
+use super::asked::sought_field;
 use super::question::Question;
 use super::search::seek_named;
 use acl_cli::fields::text_field;
-use acl_cli::options::PERMS;
+use acl_cli::options::OPTIONAL_PERMS;
 use acl_cli::{
     Command as CliCommand, CommandLine, Ending, ErrorOutput, Failure, Given, Line, OpenFiles, Word,
-    perms_field, write_text,
+    write_text,
 };
 use acl_people::options::{ACCOUNTS, DOMAIN};
 use acl_people::{Host, Person, read_host};
@@ -23,39 +24,54 @@ use clap::ArgMatches;
 use std::alloc::Global;
 use std::io::{Read, Write};
 
-/// What is reported, and what the exit statuses are.
+/// The end of help: the answer, and the exit statuses.
 const ANSWERS: &str = "For example:
   getfacl -Rn /srv/share | aclctl why --user alice --perms w - srv/share/plan
 
-First granted or denied, of P and of reach: the user has to be granted P by the
-file's list, and x by that of each folder above it that the listing has. Then
+The first line is granted if the file's list grants the user all of P, and the
+list of each parent folder in the listing grants x; else denied. Then follows,
 for each of these folders, the outermost first, and for the file:
   folder PATH granted|denied, or file PATH granted|denied
-and why its list decides so, as explain tells it. PATH is written as the
-listing writes it; the first block that has it counts. uid 0 isn't asked about:
-it may do nearly everything.
+with the entries that decide, as explain prints them. PATH is written as the
+listing writes it; the first block that has it counts. uid 0 is refused: it may
+do nearly everything.
+
+With --delete, the folders are followed by what decides who --delete. For NFSv4
+lists these are d of the file's list, and D of the folder's,
+  delete PATH granted|denied|-, and delete-child FOLDER granted|denied|-
+with the entry that decides. If neither list allows or denies it, the folder has
+to grant w and x at once (an NFSv4 list w), and if it has the sticky bit, the
+user has to own it or the file:
+  add FOLDER granted|denied, sticky FOLDER granted|denied, and owner UID PATH
+A file without a listed parent folder is an unknown-way, with status 4.
 
 Exit status: 0 with an answer, granted or denied; 1 if a field is malformed, a
 file can't be read, or the listing has no such file; 2 if the words are wrong;
 3 if memory runs out, the listing fails while it is read, or the answer can't
-be written; 4 if the file's block is malformed, or the way to it isn't known,
-as standard error tells.";
+be written; 4 if the file's block is malformed, or its parent folders aren't
+known, as standard error reports.";
 
-/// `why` of a file of a listing.
+/// `why`: the reasons why a user may access a file of a listing, or not.
 #[derive(Clone, Copy)]
 pub struct Why;
 
-/// What stands in the line, in the order of help.
-const WORDS: [Word<'static>; 6] = [
+/// The words of the line, in the order of help.
+const WORDS: [Word<'static>; 7] = [
     ACCOUNTS,
     DOMAIN,
     Word {
         given: Given::RequiredOption,
         name: "user",
         value: "NAME",
-        help: "The user to ask about, by name or uid",
+        help: "The user to evaluate, by name or uid",
     },
-    PERMS,
+    OPTIONAL_PERMS,
+    Word {
+        given: Given::Flag,
+        name: "delete",
+        value: "",
+        help: "Reports why the user may delete, rename or replace it, or not; instead of --perms",
+    },
     LISTING,
     Word {
         given: Given::RequiredWord,
@@ -78,21 +94,21 @@ impl CommandLine for Why {
     fn line() -> Line<'static> {
         Line {
             name: "why",
-            about: "Tells why a user may do something with a file of a listing, or may not.",
+            about: "Reports why a user may access a file of a listing, or why not.",
             after_help: ANSWERS,
             words: &WORDS,
         }
     }
 }
 
-/// The path that is asked about.
+/// The value of PATH.
 fn path_field<'a>(matches: &ArgMatches<'a>) -> &'a str
     ensures { result.now ≡ path_in (rows_of (found_of matches.now)) }
 {
     text_field(matches, "path").unwrap_or("")
 }
 
-/// The one who is asked about.
+/// The user to evaluate.
 fn read_user<'a>(
     alloc: Global,
     host: &Host,
@@ -106,7 +122,7 @@ fn read_user<'a>(
     host.read_person(alloc, text_field(matches, "user").unwrap_or(""))
 }
 
-/// Writes an answer, and what stands beside it.
+/// Writes an answer, and its lines for standard error.
 fn write_made<'n, W: Write, E: Write + Drop>(
     made: &Made,
     out: &mut W,
@@ -123,8 +139,8 @@ fn write_made<'n, W: Write, E: Write + Drop>(
     Ok(made.ending)
 }
 
-/// Writes the answer about the path's file of the listing of this name.
-fn tell_why<'n, F, I, W, E>(
+/// Writes the answer about the file at the path, in the listing of this name.
+fn report_why<'n, F, I, W, E>(
     alloc: Global,
     files: &F,
     name: &'n str,
@@ -168,16 +184,16 @@ impl CliCommand for Why {
         out: &mut W,
         err: &mut ErrorOutput<E>,
     ) -> Result<Ending, Failure<'a>> {
-        let perms = perms_field(matches)?;
+        let sought = sought_field::<Why>(alloc, matches)?;
         let host = read_host(alloc, files, matches)?;
         let person = read_user(alloc, &host, matches)?;
         let question = Question {
             host: &host,
             requester: &person.requester,
-            perms,
+            sought,
         };
         let name = listing_field(matches);
-        tell_why(
+        report_why(
             alloc,
             files,
             name,

@@ -1,13 +1,22 @@
-//! What is asked about a file.
+//! What `why` evaluates for a file.
 
 use acl_names::Requester;
 use acl_people::Host;
 use acl_posix::Perms;
 
-/// By whose names blocks are read, who asks, and for which permissions.
+/// What is evaluated.
+#[derive(Clone, Copy)]
+pub(super) enum Sought {
+    /// Whether all of these permissions are granted.
+    Permissions(Perms),
+    /// Whether the user may delete it.
+    Deletion,
+}
+
+/// The users and groups whose names blocks have, the requester, and what is evaluated.
 #[derive(Clone, Copy)]
 pub(super) struct Question<'t> {
     pub host: &'t Host,
     pub requester: &'t Requester,
-    pub perms: Perms,
+    pub sought: Sought,
 }

@@ -1,4 +1,4 @@
-//! The block of a listing that has a path.
+//! Finding the block of a listing that has a path.
 ghost use Rattle.std.specs.Prelude.{◌≡◌, bytes_eq, false, IfErr, IfOk};
 ghost use Rattle.std.specs.Option.{option_map_or};
 ghost use Rattle.acl_listings.specs.Block.{path_of};
@@ -26,8 +26,8 @@ fn has_path(text: &[u8], path: &[u8]) -> bool
     }
 }
 
-/// The answer about the first block that has the path, of those still to come of the listing of
-/// this name.
+/// The answer about the first block with the path, out of the blocks still to come of the listing
+/// of this name.
 fn seek<'n, R: Read + Drop>(
     alloc: Global,
     name: &'n str,
@@ -56,7 +56,7 @@ fn seek<'n, R: Read + Drop>(
     Err(Failure::Unread(name))
 }
 
-/// The same, of the listing that the reader reads.
+/// The same for the listing that the reader reads.
 fn seek_in<'n, R: Read + Drop>(
     alloc: Global,
     name: &'n str,
@@ -73,8 +73,8 @@ fn seek_in<'n, R: Read + Drop>(
     seek(alloc, name, path, question, &mut blocks)
 }
 
-/// The same, of the listing of this name: `-` is that of `input`, and else it is that of the name's
-/// file, which leaves `input` as it is.
+/// The same for the listing of this name: `input` for `-`, and else the file with the name, which
+/// leaves `input` as it is.
 pub(super) fn seek_named<'n, F: OpenFiles, I: Read>(
     alloc: Global,
     files: &F,

@@ -1,30 +1,30 @@
-//! The way to a path, as far as a listing was read.
+//! The way to a path, in the blocks of a listing that were read.
 ghost use Rattle.std.specs.Prelude.{◌≡◌, ◌++◌, ◌∷◌, [], ℕ, true, IfErr, IfOk, List, OnOk, Some};
 ghost use Rattle.acl_names.specs.Names.{Names};
 ghost use Rattle.acl_listing_queries.specs.Readings.{Reading, reading_of};
 ghost use Rattle.acl_listing_queries.specs.Ways.{begins_apart, known_way, way_of};
-ghost use Rattle.acl_listing_queries.specs.WhySteps.{IsUnknown, IsWayTo, IsWayTold, asked_by};
+ghost use Rattle.acl_listing_queries.specs.WhySteps.{IsUnknown, IsWayTo, IsWayReported, asked_by};
 
-use super::folders::{Folders, tell_folders};
+use super::folders::{Folders, report_folders};
 use super::question::Question;
-use crate::above::{is_above, may_be_above};
+use crate::above::may_be_above;
 use crate::beginning::Beginning;
-use acl_listings::{BlockFault, FileFault, path_of};
+use acl_listings::{BlockFault, FileFault, is_above, path_of};
 use std::alloc::{AllocError, Global};
 
-/// The way to a path, behind blocks of a listing.
+/// The way to a path, after some blocks of a listing.
 #[derive(Drop)]
 pub(super) struct Way {
-    /// The blocks of the folders above it, the outermost first.
+    /// The blocks of its parent folders, the outermost first.
     folders: Vec<Vec<u8>>,
-    /// Where the way to the block before begins.
+    /// Where the way to the previous block begins.
     beginning: Beginning,
-    /// Whether a block's path didn't read, which may be above all that comes after it.
+    /// Whether a block had no readable path: it may be a parent of everything after it.
     lost: bool,
 }
 
 impl Way {
-    /// No block was met.
+    /// Before any block.
     pub fn new(alloc: Global) -> Way
         ensures { (names : Names) (path : List ℕ) → IsWayTo names path [] result }
     {
@@ -35,8 +35,7 @@ impl Way {
         }
     }
 
-    /// Goes on to the block with this text, on the way to the path. It fails only if memory runs
-    /// out.
+    /// Goes on to the block with this text, on the way to the path. Fails only if memory runs out.
     pub fn go_on(&mut self, alloc: Global, path: &[u8], text: &[u8]) -> Result<(), AllocError>
         ensures { (names : Names) (earlier : List Reading) → IsWayTo names path.now earlier self.old
             → OnOk result (IsWayTo names path.now (earlier ++ reading_of names text.now ∷ [])
@@ -59,17 +58,18 @@ impl Way {
         Ok(())
     }
 
-    /// Comes to the path: what is reported of the folders on the way to it, if they are known.
+    /// Ends the way at the path: returns the report on its parent folders. Fails with `UnknownWay`
+    /// if they aren't known.
     pub fn come_to(
         &mut self,
         alloc: Global,
         question: &Question<'_>,
         path: &[u8],
     ) -> Result<Folders<'_>, FileFault>
-        ensures told { (earlier : List Reading) (here : Reading)
+        ensures reported { (earlier : List Reading) (here : Reading)
             → IsWayTo (asked_by question.now).names path.now earlier self.old
             → here.path ≡ Some path.now
-            → IfOk result (IsWayTold (asked_by question.now) (way_of earlier here) here) }
+            → IfOk result (IsWayReported (asked_by question.now) (way_of earlier here) here) }
         ensures apart { (earlier : List Reading) (here : Reading)
             → IsWayTo (asked_by question.now).names path.now earlier self.old
             → here.path ≡ Some path.now
@@ -85,6 +85,6 @@ impl Way {
         if !self.beginning.come_to(alloc, path)? {
             return Err(FileFault::Block(BlockFault::UnknownWay));
         }
-        tell_folders(alloc, question, self.folders.as_slice(), path)
+        report_folders(alloc, question, self.folders.as_slice(), path)
     }
 }

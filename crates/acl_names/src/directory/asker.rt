@@ -1,4 +1,4 @@
-//! Who asks for access and is in few groups.
+//! A requester who is in at most two groups.
 ghost use Rattle.std.specs.Prelude.{◌≡◌, IfOk, ◌==◌, option_to_list};
 ghost use Rattle.std.specs.List.{list_any};
 ghost use Rattle.acl_names.specs.Asker.{identity_of};
@@ -7,11 +7,10 @@ ghost use Rattle.acl_names.specs.Requester.{is_in_group};
 use crate::{Gid, Requester, Uid};
 use std::alloc::{AllocError, Global};
 
-/// Who asks for access and is in at most two groups. It takes no memory, so that many can be tried
-/// in turn.
+/// A requester who is in at most two groups. It takes no memory, so that many can be tried in turn.
 #[derive(Clone, Copy, Debug, PartialEq, Eq)]
 pub struct Asker {
-    /// The user who asks.
+    /// The user's id.
     pub uid: Uid,
     /// A group that the user is in, if any.
     pub gid: Option<Gid>,
@@ -19,7 +18,7 @@ pub struct Asker {
     pub other_gid: Option<Gid>,
 }
 
-/// Whether it is this group.
+/// Whether `own` is this group.
 fn is_gid(own: Option<Gid>, gid: Gid) -> bool
     ensures { result ≡ list_any (λ one. one == gid) (option_to_list own) }
 {
@@ -37,8 +36,7 @@ impl Asker {
         is_gid(self.gid, gid) || is_gid(self.other_gid, gid)
     }
 
-    /// The same user with the same groups, to be asked about wherever a requester is wanted. It
-    /// fails only if memory runs out.
+    /// The same user and groups as a `Requester`. Fails only if memory runs out.
     pub fn requester(&self, alloc: Global) -> Result<Requester, AllocError>
         ensures { IfOk result (λ requester. requester ≡ identity_of self.now) }
     {

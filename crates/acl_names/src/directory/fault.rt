@@ -14,16 +14,16 @@ use super::names::is_domain;
 use crate::limits::{MAX_GROUPS, MAX_GROUPS_OF_USER, MAX_USERS};
 use crate::{Group, User};
 
-/// Why lists of users and groups are no directory.
+/// Why lists of users and groups can't make a directory.
 #[derive(Clone, Copy, Debug, PartialEq, Eq)]
 pub enum SetupFault {
     /// A user's or a group's name, or the domain, is malformed.
     BadName,
-    /// Two users or two groups have one name, or a user is twice in one group.
+    /// Two users or two groups have the same name, or a user's groups have one twice.
     RepeatedName,
-    /// Two users have one uid, or two groups one gid.
+    /// Two users have the same uid, or two groups the same gid.
     RepeatedId,
-    /// A user is in a group that there isn't.
+    /// A user is in a group that isn't listed.
     UnknownGroup,
     /// There are more than 1024 users or 1024 groups, or a user is in more than 32.
     TooMany,
@@ -31,7 +31,7 @@ pub enum SetupFault {
     Memory,
 }
 
-/// The first thing that is wrong with the lists, by what sorting them found.
+/// The first fault of the lists; sorting them has found whether keys are repeated.
 pub(super) fn first_fault(
     domain: &str,
     users: &[User],

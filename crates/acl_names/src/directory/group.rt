@@ -42,7 +42,7 @@ impl Named for Group {
     }
 }
 
-/// The gid of the group with this name, of groups in the order of their names.
+/// The gid of the group with this name. `groups` must be sorted by name.
 pub(crate) fn gid_named(groups: &[Group], name: &str) -> Option<Gid>
     requires { IsAscending (slice_cmp nat_cmp) (λ group. group.name) groups.now }
     ensures { result ≡ option_map (λ group. group.gid)

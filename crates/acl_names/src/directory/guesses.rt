@@ -1,5 +1,5 @@
-//! Guesses where the member of a name stands, by a hash of the name. A guess that is wrong costs a
-//! search and no more, so nothing is proved of hashes.
+//! Guesses at which place the member with a name is, from a hash of the name. A wrong guess only
+//! costs a search, so nothing is proved about hashes.
 
 ghost use Rattle.std.specs.Prelude.{◌≡◌, ◌==◌, false, ◌++◌, ◌∷◌, Some, find, length, IfSome, IsOk};
 ghost use Rattle.std.specs.Cmp.Lexicographic.{slice_cmp};
@@ -13,14 +13,14 @@ use super::named::{Named, find_by_bytes};
 use crate::limits::MAX_NAME_LEN;
 use std::alloc::{AllocError, Global};
 
-/// Places of the table for each member. With 8, about one name in 17 loses its place to another.
+/// Slots of the table for each member. With 8, about one name in 17 loses its slot to another.
 const GUESSES_PER_MEMBER: usize = 8;
 
 /// An odd number near the golden ratio of 2^64, by which the bits of a hash are spread.
 const SPREAD: u64 = 0x9E37_79B9_7F4A_7C15;
 
-/// The place of some member for each hash of a name; of two members that share one, that of the
-/// later. Of no members there is none, which takes no memory.
+/// The table: for the hash of a name, the place of the member with that name. If two members share
+/// a slot, the later one has it. Without members the table is empty and takes no memory.
 pub(crate) fn guesses_of<T: Named>(alloc: Global, members: &[T]) -> Result<Vec<u16>, AllocError>
     ensures { length members.now ≡ 0 → IsOk result }
 {
@@ -38,7 +38,7 @@ pub(crate) fn guesses_of<T: Named>(alloc: Global, members: &[T]) -> Result<Vec<u
     Ok(guesses)
 }
 
-/// The member of this name, of members in the order of their names, by the hash of the name.
+/// The member with this name, whose hash is `hash`. `members` must be sorted by name.
 pub(crate) fn find_by_hash<'a, T: Named>(
     members: &'a [T],
     guesses: &[u16],
@@ -54,8 +54,8 @@ pub(crate) fn find_by_hash<'a, T: Named>(
     find_by_bytes(members, name)
 }
 
-/// The member of this name, if the guess for the hash is right. A fast path: `None` means that it
-/// has to be searched for.
+/// The member with this name, if the guess for the hash is right. A fast path: on `None` the caller
+/// has to search.
 fn find_at_guess<'a, T: Named>(
     members: &'a [T],
     guesses: &[u16],
@@ -79,9 +79,8 @@ fn find_at_guess<'a, T: Named>(
     }
 }
 
-/// What stands before the first separator, its hash for `uid_by_hash` and `gid_by_hash`, and what
-/// stands after the separator. `None` if there is no separator within the first `MAX_NAME_LEN` + 1
-/// bytes.
+/// The text before the first separator, its hash for `uid_by_hash` and `gid_by_hash`, and the text
+/// after the separator. `None` if there is no separator within the first `MAX_NAME_LEN` + 1 bytes.
 pub(crate) fn split_name(separator: u8, text: &[u8]) -> Option<(&[u8], u64, &[u8])>
     ensures parts { IfSome result (λ found. text.now ≡ found.0.now ++ separator ∷ found.2.now) }
     ensures first { IfSome result (λ found. list_any (λ x. x == separator) found.0.now ≡ false) }
@@ -108,13 +107,13 @@ pub(crate) fn hash_of(name: &[u8]) -> u64 {
     hash
 }
 
-/// The hash of a text with one byte more.
+/// The hash of a text and one more byte.
 #[inline(always)]
 fn hash_with(hash: u64, byte: u8) -> u64 {
     hash.rotate_left(7) ^ u64::from(byte)
 }
 
-/// Which of so many guesses is that of a hash.
+/// The slot of a hash, out of `count` slots.
 #[inline(always)]
 fn guess_at(hash: u64, count: usize) -> usize {
     let spread = hash.wrapping_mul(SPREAD) >> 32;

@@ -1,6 +1,7 @@
 //! Laws of a directory. There is nothing to run here: proofs cite the contracts.
 
-ghost use Rattle.acl_names.specs.Directory.{NamesReadBack};
+ghost use Rattle.std.specs.Prelude.{◌≡◌, None};
+ghost use Rattle.acl_names.specs.Directory.{NamesReadBack, fault_of};
 
 use super::Directory;
 
@@ -9,6 +10,14 @@ impl Directory {
     /// nothing to run here: a proof cites the contract.
     pub fn names_read_back(&self)
         ensures { NamesReadBack self.now }
+    {
+        let _ = &self.users;
+    }
+
+    /// Nothing is wrong with its users and groups. There is nothing to run here: a proof cites the
+    /// contract.
+    pub fn is_faultless(&self)
+        ensures { fault_of self.now ≡ None }
     {
         let _ = &self.users;
     }

@@ -1,4 +1,4 @@
-//! Lists of what has a name and an id, in which both are found by binary search.
+//! Lists of members with a name and an id, which are found by binary search.
 
 ghost use Rattle.std.specs.Prelude.{◌≡◌, ◌==◌, ℕ, false, not, nat_eq, List, find, length};
 ghost use Rattle.std.specs.Prelude.{option_map, IfOk, IsOk, IsTrue};
@@ -15,7 +15,7 @@ ghost use Rattle.acl_names.specs.Named.{ids_with_places, IsIndexOf};
 use super::names::is_name;
 use std::alloc::{AllocError, Global};
 
-/// What has a name and an id: a user or a group.
+/// A member with a name and an id: a user or a group.
 pub(crate) trait Named {
     ghost name_of: { Self → List ℕ };
 
@@ -28,17 +28,17 @@ pub(crate) trait Named {
         ensures { result ≡ id_of self.now };
 }
 
-/// Whether the keys of members tell them apart.
+/// Whether names and ids each distinguish the members of a list.
 #[derive(Clone, Copy)]
 pub(crate) struct Keys {
-    /// No two have one name.
+    /// No two members have the same name.
     pub names: bool,
-    /// No two have one id.
+    /// No two members have the same id.
     pub ids: bool,
 }
 
-/// Puts the members in the order of their names, and tells which of their keys tell them apart. It
-/// takes no memory.
+/// Sorts the members by name, and reports whether names and ids distinguish them. It takes no
+/// memory.
 pub(crate) fn sort<T: Named>(members: &mut Vec<T>) -> Keys
     ensures permutation { IsPermutation members.old.items members.new.items }
     ensures names { result.names ≡ not (repeats bytes_eq T.name_of members.new.items) }
@@ -51,8 +51,7 @@ pub(crate) fn sort<T: Named>(members: &mut Vec<T>) -> Keys
     Keys { names, ids }
 }
 
-/// Puts the members in the order of their names, and tells whether no two have one name. It takes
-/// no memory.
+/// Sorts the members by name, and returns whether no two have the same name. It takes no memory.
 fn sort_by_name<T: Named>(members: &mut Vec<T>) -> bool
     ensures permutation { IsPermutation members.old.items members.new.items }
     ensures distinct { result ≡ not (repeats bytes_eq T.name_of members.old.items) }
@@ -64,8 +63,7 @@ fn sort_by_name<T: Named>(members: &mut Vec<T>) -> bool
         .is_sorted_by(|one, later| one.name() < later.name())
 }
 
-/// Puts the members in the order of their ids, and tells whether no two have one id. It takes no
-/// memory.
+/// Sorts the members by id, and returns whether no two have the same id. It takes no memory.
 fn sort_by_id<T: Named>(members: &mut Vec<T>) -> bool
     ensures permutation { IsPermutation members.old.items members.new.items }
     ensures distinct { result ≡ not (repeats nat_eq T.id_of members.old.items) }
@@ -76,7 +74,7 @@ fn sort_by_id<T: Named>(members: &mut Vec<T>) -> bool
         .is_sorted_by(|one, later| one.id() < later.id())
 }
 
-/// The id of each member with its place, in the order of the ids.
+/// An index by id: the id and place of each member, sorted by id. Fails only if memory runs out.
 pub(crate) fn index_by_id<T: Named>(
     alloc: Global,
     members: &[T],
@@ -94,7 +92,7 @@ fn ids_with_places<T: Named>(alloc: Global, members: &[T]) -> Result<Vec<(u32, u
     ensures entries { IfOk result (λ entries. entries.items ≡ ids_with_places T.id_of members.now) }
     ensures empty { length members.now ≡ 0 → IsOk result }
 {
-    // The room is asked for at once: `collect` would try again with less if it is refused.
+    // All memory is requested at once: after a refusal `collect` would try again with less.
     let mut entries = Vec::with_capacity(alloc, members.len())?;
     for member in members {
         entries.push((member.id(), entries.len()))?;
@@ -102,7 +100,7 @@ fn ids_with_places<T: Named>(alloc: Global, members: &[T]) -> Result<Vec<(u32, u
     Ok(entries)
 }
 
-/// The member of this name, of members in the order of their names.
+/// The member with this name. `members` must be sorted by name.
 pub(crate) fn find_by_name<'a, T: Named>(members: &'a [T], name: &str) -> Option<&'a T>
     requires { IsAscending (slice_cmp nat_cmp) T.name_of members.now }
     ensures { option_copied result ≡ find (λ member. bytes_eq (T.name_of member) name.now)
@@ -111,7 +109,7 @@ pub(crate) fn find_by_name<'a, T: Named>(members: &'a [T], name: &str) -> Option
     find_by_bytes(members, name.as_bytes())
 }
 
-/// The member of a name that may be no UTF-8, of members in the order of their names.
+/// The member with this name, which may not be UTF-8. `members` must be sorted by name.
 pub(crate) fn find_by_bytes<'a, T: Named>(members: &'a [T], name: &[u8]) -> Option<&'a T>
     requires { IsAscending (slice_cmp nat_cmp) T.name_of members.now }
     ensures { option_copied result ≡ find (λ member. bytes_eq (T.name_of member) name.now)
@@ -123,7 +121,7 @@ pub(crate) fn find_by_bytes<'a, T: Named>(members: &'a [T], name: &[u8]) -> Opti
     }
 }
 
-/// The member of this id, by an index of the members.
+/// The member with this id, by an index of the members.
 pub(crate) fn find_by_id<'a, T: Named>(
     members: &'a [T],
     index: &[(u32, usize)],
@@ -138,7 +136,7 @@ pub(crate) fn find_by_id<'a, T: Named>(
     }
 }
 
-/// The place that an index has for this id.
+/// The place that an index has for this id; `None` if no member has the id.
 pub(crate) fn place_in(index: &[(u32, usize)], id: u32) -> Option<usize>
     requires { IsAscending nat_cmp (λ entry. entry.0) index.now }
     ensures { result ≡ option_map (λ entry. entry.1) (find (λ entry. entry.0 == id) index.now) }
@@ -149,7 +147,7 @@ pub(crate) fn place_in(index: &[(u32, usize)], id: u32) -> Option<usize>
     }
 }
 
-/// Whether some member's name hasn't the shape of a name.
+/// Whether any member's name is malformed.
 pub(crate) fn some_name_is_bad<T: Named>(members: &[T]) -> bool
     ensures { result ≡ list_any (λ member. not (has_name_shape (T.name_of member))) members.now }
 {

@@ -8,8 +8,8 @@ ghost use Rattle.acl_names.specs.declared.limits.TheConstants.{MAX_ID, MAX_NAME_
 use crate::{Directory, Gid, Uid, push_decimal, put_bytes, put_decimal};
 use std::alloc::AllocError;
 
-/// Appends the name, or the decimal of an id that has none. If memory runs out, what `out` held
-/// still stands in front; that happens only if `out` has no room for the text.
+/// Appends the name, or the id in decimal if `name` is `None`. Fails only if memory runs out, and
+/// never if `out` has room for the text; what `out` held stays in front.
 pub fn push_id(name: Option<&str>, id: u32, out: &mut Vec<u8>) -> Result<(), AllocError>
     ensures { PushesInRoom (unwrap_or (option_map (λ bytes. bytes.now) name.entry) (decimal id))
         result out.old out.new }
@@ -20,8 +20,8 @@ pub fn push_id(name: Option<&str>, id: u32, out: &mut Vec<u8>) -> Result<(), All
     }
 }
 
-/// Appends the name, or the decimal of an id that has none. `out` must have room for `MAX_NAME_LEN`
-/// bytes, and the name be no longer.
+/// Appends the name, or the id in decimal if `name` is `None`. The name may have at most
+/// `MAX_NAME_LEN` bytes, for which `out` must have room.
 #[inline(always)]
 fn put_id(name: Option<&str>, id: u32, out: &mut Vec<u8>)
     requires room { vec_len out.old + MAX_NAME_LEN ≤ vec_capacity out.old }
@@ -41,8 +41,8 @@ impl Directory {
     ghost use Rattle.acl_names.specs.Directory.{group_name, user_name};
     ghost use Rattle.acl_names.specs.Ids.{id_text};
 
-    /// Appends the name of the user with this uid, or the decimal if no user has it. `out` must
-    /// have room for `MAX_NAME_LEN` bytes.
+    /// Appends the name of the user with this uid, or the uid in decimal if no user has it. `out`
+    /// must have room for `MAX_NAME_LEN` bytes.
     #[inline(always)]
     pub fn put_user(&self, uid: Uid, out: &mut Vec<u8>)
         requires { vec_len out.old + MAX_NAME_LEN ≤ vec_capacity out.old }
@@ -55,8 +55,8 @@ impl Directory {
         put_id(self.user_name(uid), uid.value(), out);
     }
 
-    /// Appends the name of the group with this gid, or the decimal if no group has it. `out` must
-    /// have room for `MAX_NAME_LEN` bytes.
+    /// Appends the name of the group with this gid, or the gid in decimal if no group has it. `out`
+    /// must have room for `MAX_NAME_LEN` bytes.
     #[inline(always)]
     pub fn put_group(&self, gid: Gid, out: &mut Vec<u8>)
         requires { vec_len out.old + MAX_NAME_LEN ≤ vec_capacity out.old }

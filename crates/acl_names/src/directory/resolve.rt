@@ -1,4 +1,4 @@
-//! Who is meant by the ids and the names that a text writes.
+//! Resolving the ids and names in a text to users and groups.
 
 ghost use Rattle.std.specs.Prelude.{◌≡◌, IfSome};
 ghost use Rattle.acl_names.specs.Directory.{gid_of, uid_of};
@@ -9,42 +9,42 @@ use super::guesses::split_name;
 use super::{Directory, Gid, Uid, WrittenId};
 use crate::read_decimal_until;
 
-/// Why a text means no user, or no group.
+/// Why a text names no user, or no group.
 #[derive(Clone, Copy, Debug, PartialEq, Eq)]
 pub enum NameFault {
     /// It is neither an id nor a name.
     Malformed,
-    /// It is a name that nobody has.
+    /// It is a name that no user, or no group, has.
     Unknown,
 }
 
-/// Whoever knows the users and the groups that texts name.
+/// Resolves what texts write for users and groups: ids and names.
 pub trait ResolveNames {
-    /// How a text writes them, and who is meant.
+    /// Which texts name which users and groups.
     ghost names: { Self → Names };
 
-    /// The uid that a text writes, or that of the user whom it names.
+    /// The uid that the text writes in decimal, or that of the user whom it names.
     fn uid_written(&self, text: &[u8]) -> Result<Uid, NameFault>
         ensures { result ≡ resolved (names self.now).written (names self.now).uid text.now };
 
-    /// The gid that a text writes, or that of the group that it names.
+    /// The gid that the text writes in decimal, or that of the group that it names.
     fn gid_written(&self, text: &[u8]) -> Result<Gid, NameFault>
         ensures { result ≡ resolved (names self.now).written (names self.now).gid text.now };
 
-    /// The uid of the field that the text begins with, and what stands behind its colon. A
-    /// fast path: `None` says nothing of the text, and `uid` has to read the field.
+    /// The uid of the field before the text's first colon, and the text after the colon. A fast
+    /// path: on `None` the caller has to cut off the field and use `uid_written`.
     fn uid_in_front<'t>(&self, text: &'t [u8]) -> Option<(Uid, &'t [u8])>
         ensures { IfSome result (λ front. BeginsWithId (names self.now).written
             (names self.now).uid text.now front.0 front.1.now) };
 
-    /// The gid of the field that the text begins with, and what stands behind its colon. A
-    /// fast path: `None` says nothing of the text, and `gid` has to read the field.
+    /// The gid of the field before the text's first colon, and the text after the colon. A fast
+    /// path: on `None` the caller has to cut off the field and use `gid_written`.
     fn gid_in_front<'t>(&self, text: &'t [u8]) -> Option<(Gid, &'t [u8])>
         ensures { IfSome result (λ front. BeginsWithId (names self.now).written
             (names self.now).gid text.now front.0 front.1.now) };
 }
 
-/// The uid of the user whose name the text begins with, and what stands behind its colon.
+/// The uid of the user whose name the text begins with, and the text after the name's colon.
 fn user_in_front<'t>(directory: &Directory, text: &'t [u8]) -> Option<(Uid, &'t [u8])>
     ensures { IfSome result (λ front. BeginsWithId written_id (uid_of directory.now) text.now
         front.0 front.1.now) }
@@ -54,7 +54,7 @@ fn user_in_front<'t>(directory: &Directory, text: &'t [u8]) -> Option<(Uid, &'t 
     Some((uid, rest))
 }
 
-/// The gid of the group whose name the text begins with, and what stands behind its colon.
+/// The gid of the group whose name the text begins with, and the text after the name's colon.
 fn group_in_front<'t>(directory: &Directory, text: &'t [u8]) -> Option<(Gid, &'t [u8])>
     ensures { IfSome result (λ front. BeginsWithId written_id (gid_of directory.now) text.now
         front.0 front.1.now) }

@@ -1,7 +1,8 @@
-//! Whoever asks for access.
+//! Anybody who requests access.
 use crate::{Asker, Gid, Requester, Uid};
 
-/// Whoever asks for access: a user, and the groups that the user is in, however they are kept.
+/// Anybody who requests access: a user, and the groups that the user is in, however they are
+/// stored.
 pub trait Subject {
     ghost use Rattle.std.specs.Prelude.{◌≡◌};
     ghost use Rattle.acl_names.specs.Requester.{Identity, is_in_group};
@@ -9,7 +10,7 @@ pub trait Subject {
     /// The user and the groups.
     ghost identity: { Self → Identity };
 
-    /// The user who asks.
+    /// The user's id.
     fn uid(&self) -> Uid
         ensures { result ≡ (identity self.now).uid };
 

@@ -23,7 +23,7 @@ impl Model for Uid {
 }
 
 impl Uid {
-    /// The id of this number; none is above `MAX_ID`.
+    /// The uid with this number; `None` above `MAX_ID`.
     pub fn new(number: u32) -> Option<Self>
         ensures { result ≡ (if nat_le number MAX_ID then Some number else None) }
     {

@@ -63,16 +63,15 @@ impl User {
         self.groups.len()
     }
 
-    /// Whether the user is twice in one group. It looks at each pair, of which there are few: a
-    /// user is in at most 32 groups.
+    /// Whether the user's groups have one twice. It compares each pair: a user is in at most 32
+    /// groups.
     pub(crate) fn repeats_group(&self) -> bool
         ensures { result ≡ repeats bytes_eq (λ name. name) self.now.groups }
     {
         repeats_text(&self.groups)
     }
 
-    /// Whether the user is in a group that is not among these, which are in the order of their
-    /// names.
+    /// Whether the user is in a group that isn't listed. `groups` must be sorted by name.
     pub(crate) fn is_in_unknown_group(&self, groups: &[Group]) -> bool
         requires { IsAscending (slice_cmp nat_cmp) (λ group. group.name) groups.now }
         ensures { result ≡ list_any (λ name. is_none
@@ -81,8 +80,8 @@ impl User {
         lacks_group(groups, &self.groups)
     }
 
-    /// The user as one who asks, with the gids of the user's groups among these, which are in the
-    /// order of their names.
+    /// The user as a requester, with the gids that `groups` has for the user's groups. `groups`
+    /// must be sorted by name.
     pub(crate) fn requester(&self, alloc: Global, groups: &[Group]) -> Result<Requester, AllocError>
         requires { IsAscending (slice_cmp nat_cmp) (λ group. group.name) groups.now }
         ensures { IfOk result (λ requester. requester

@@ -1,4 +1,4 @@
-//! Ids as they are written.
+//! Ids as a text writes them.
 
 ghost use Rattle.std.specs.Prelude.{◌≡◌, Some, None, option_map, if◌then◌else◌};
 ghost use Rattle.acl_names.specs.Ids.{has_name_shape, written_id};
@@ -8,7 +8,7 @@ use super::names::is_name;
 use crate::read_decimal;
 use std::str;
 
-/// An id as it is written: a decimal, or a name, whether or not anyone has it.
+/// An id as a text writes it: a decimal, or a name, whether or not anyone has it.
 #[derive(Clone, Copy, Debug)]
 pub enum WrittenId<'a> {
     /// An id in decimal.
@@ -18,8 +18,8 @@ pub enum WrittenId<'a> {
 }
 
 impl<'a> WrittenId<'a> {
-    /// What a text writes: the number of 1 to 10 digits, if it is an id, or else a text with the
-    /// shape of a name.
+    /// Reads an id: 1 to 10 digits that write an id, or else a text with the shape of a name.
+    /// `None` for any other text.
     pub fn read(text: &'a [u8]) -> Option<WrittenId<'a>>
         ensures { option_map view_written result ≡ written_id text.now }
     {
@@ -33,7 +33,7 @@ impl<'a> WrittenId<'a> {
     }
 }
 
-/// The text, if it has the shape of a name.
+/// The text as UTF-8, if it has the shape of a name.
 fn read_name(text: &[u8]) -> Option<&str>
     ensures { option_map (λ name. name.now) result
         ≡ (if has_name_shape text.now then Some text.now else None) }

@@ -1,18 +1,19 @@
-//! Spaces and tabs round a text.
+//! Spaces and tabs around a text.
 
 ghost use Rattle.std.specs.Prelude.{◌≡◌, ◌≤◌, length};
 ghost use Rattle.std.specs.List.{position_or_len};
 ghost use Rattle.acl_names.specs.Pieces.{after_word, first_word, is_blank, trim, trim_end};
 ghost use Rattle.acl_names.specs.Pieces.{trim_start};
 
-/// The text without the spaces and tabs at its two ends.
+/// The text without spaces and tabs at both ends.
 pub fn trim_blanks(text: &[u8]) -> &[u8]
     ensures { result.now ≡ trim text.now }
 {
     without_blanks_behind(skip_blanks(text))
 }
 
-/// The first word of a line that begins with no blank, and what stands after it and its blanks.
+/// The first word of a line that doesn't begin with a blank, and the rest after the blanks that
+/// follow the word.
 pub fn split_word(line: &[u8]) -> (&[u8], &[u8])
     ensures word { result.0.now ≡ first_word line.now }
     ensures rest { result.1.now ≡ after_word line.now }

@@ -9,15 +9,15 @@ ghost use Rattle.acl_names.specs.declared.limits.TheConstants.{MAX_DIGITS};
 use itoa::Buffer;
 use std::alloc::AllocError;
 
-/// Appends the decimal. If memory runs out, what `out` held still stands in front; that happens
-/// only if `out` has no room for the text.
+/// Appends the number in decimal. Fails only if memory runs out, and never if `out` has room for
+/// the text; what `out` held stays in front.
 pub fn push_decimal(number: u32, out: &mut Vec<u8>) -> Result<(), AllocError>
     ensures { PushesInRoom (decimal number) result out.old out.new }
 {
     out.extend_from_slice(Buffer::new().format(number).as_bytes())
 }
 
-/// Appends the decimal. `out` must have room for `MAX_DIGITS` bytes.
+/// Appends the number in decimal. `out` must have room for `MAX_DIGITS` bytes.
 #[inline(always)]
 pub fn put_decimal(number: u32, out: &mut Vec<u8>)
     requires { vec_len out.old + MAX_DIGITS ≤ vec_capacity out.old }
@@ -37,7 +37,7 @@ pub fn put_decimal(number: u32, out: &mut Vec<u8>)
     }
 }
 
-/// The decimal of a number of at most four digits.
+/// Appends a number of at most four digits.
 #[inline(always)]
 fn put_first_four(number: u32, out: &mut Vec<u8>)
     requires small { number < 10000 }
@@ -54,7 +54,7 @@ fn put_first_four(number: u32, out: &mut Vec<u8>)
     }
 }
 
-/// The decimal of a number of at most two digits.
+/// Appends a number of at most two digits.
 #[inline(always)]
 fn put_first_two(number: u32, out: &mut Vec<u8>)
     requires small { number < 100 }
@@ -70,7 +70,7 @@ fn put_first_two(number: u32, out: &mut Vec<u8>)
     }
 }
 
-/// Four digits.
+/// Appends four digits.
 #[inline(always)]
 fn put_four(number: u32, out: &mut Vec<u8>)
     requires small { number < 10000 }
@@ -83,7 +83,7 @@ fn put_four(number: u32, out: &mut Vec<u8>)
     put_two(number % 100, out);
 }
 
-/// Two digits.
+/// Appends two digits.
 #[inline(always)]
 fn put_two(number: u32, out: &mut Vec<u8>)
     requires small { number < 100 }

@@ -1,4 +1,4 @@
-//! Laws of lists that are written as texts. They run nothing: proofs cite their contracts.
+//! Laws of lists that are written as texts.
 
 ghost use Rattle.std.specs.Prelude.{◌≡◌, ℕ, List};
 ghost use Rattle.acl_names.specs.ListText.{Spells};

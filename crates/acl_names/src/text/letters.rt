@@ -13,12 +13,12 @@ use std::alloc::AllocError;
 pub struct Letter {
     /// The letter's byte.
     pub letter: u8,
-    /// The bit as a set of this one bit.
+    /// The bit, as a mask with this bit alone.
     pub bit: u32,
 }
 
-/// The bits whose letters make up the text: letters of the table alone, in any order, each at most
-/// once, or none.
+/// The bits whose letters make up the text, in any order. `None` if a letter isn't in the table or
+/// occurs twice.
 pub fn read_letters(table: &[Letter], text: &[u8]) -> Option<u32>
     ensures { result ≡ letters_of table.now text.now }
 {
@@ -47,7 +47,7 @@ fn stands_in(byte: u8, text: &[u8]) -> bool
     text.iter().any(|own| *own == byte)
 }
 
-/// The bits for which the letter stands.
+/// The bits that the letter means; 0 if it isn't in the table.
 fn bits_of_letter(table: &[Letter], letter: u8) -> u32
     ensures { result ≡ bits_of_rows (filter (λ row. row.letter == letter) table.now) }
 {
@@ -60,8 +60,9 @@ fn bits_of_letter(table: &[Letter], letter: u8) -> u32
     bits
 }
 
-/// Appends the letters of the bits that are set, in the order of the table. If memory runs out, the
-/// letters that found room stand in `out`; that happens only if `out` has no room for all of them.
+/// Appends the letters of the bits that are set, in the order of the table. Fails only if memory
+/// runs out, and never if `out` has room for all letters; `out` then has the letters that found
+/// room.
 #[tactic(auto, using(crate::proofs::LettersAgain::letters_again))]
 pub fn push_letters(table: &[Letter], bits: u32, out: &mut Vec<u8>) -> Result<(), AllocError>
     ensures printed { PushesInRoom (letters_text table.now bits) result out.old out.new }

@@ -1,4 +1,4 @@
-//! Lists that are written as texts: entries of a POSIX ACL, entries of an NFSv4 ACL.
+//! Lists that are written as texts: POSIX entries, NFSv4 entries.
 
 ghost use Rattle.std.specs.Prelude.{◌≡◌, ◌≢◌, ◌≤◌, ℕ, [], List, length, Result, IfOk, IfErr};
 ghost use Rattle.std.specs.Prelude.{IfSome, IsOk, IsTrue, MatchResult};
@@ -11,12 +11,12 @@ use super::pieces::Pieces;
 use smallvec::SmallVec;
 use std::alloc::{AllocFailed, Global};
 
-/// Why a text could not be read as a list.
+/// Why a text isn't a list.
 #[derive(Clone, Copy, Debug, PartialEq, Eq)]
 pub enum ListFault<F> {
-    /// What is wrong with the first faulty piece.
+    /// The first faulty piece has this fault.
     Piece(F),
-    /// There are more pieces than the list may have members.
+    /// There are more pieces than the list may have entries.
     TooMany,
     /// Memory ran out.
     Memory,
@@ -30,31 +30,30 @@ impl<T: Drop, F> From<AllocFailed<T>> for ListFault<F> {
     }
 }
 
-/// Reads one piece of a list's text.
+/// Reads the pieces of a list's text.
 pub trait PieceReader {
-    /// A member of the list.
+    /// An entry of the list.
     type Value: Drop + Default;
 
-    /// What may be wrong with a piece.
+    /// What can be wrong with a piece.
     type Fault: Drop;
 
-    /// What a piece says, or what is wrong with it.
+    /// The entry that a piece means, or its fault.
     ghost value_of: { Self → List ℕ → Result Self.Value Self.Fault };
 
-    /// Reads a piece: its value, or what is wrong with it.
+    /// Reads a piece: its entry, or its fault.
     fn read(&self, piece: &[u8]) -> Result<Self::Value, Self::Fault>
         ensures { result ≡ value_of self.now piece.now };
 
-    /// The member that the text begins with and what stands after it, if its piece stands there
-    /// plainly, with no blank and no comment. A fast path: `None` says nothing of the text, and
-    /// `read` has to read it.
+    /// The entry that the text begins with and the text after it, if the piece has no blanks and no
+    /// comment. A fast path: on `None` the caller has to cut off the piece and use `read`.
     fn read_front<'t>(&self, text: &'t [u8]) -> Option<(Self::Value, &'t [u8])>
         ensures { IfSome result (λ front. IsFront (value_of self.now) text.now front.0 front.1.now) };
 }
 
-/// The list of at most `limit` members that the text spells. Pieces are read from left to right,
-/// and the first faulty one decides; a piece that would be one too many is `TooMany` before it is
-/// read. `Memory` comes only if memory runs out, and not up to `N` pieces.
+/// Reads a list of at most `limit` entries. It reads pieces from left to right and returns the
+/// first fault; a piece after the last allowed entry is `TooMany` before it is read. `Memory` means
+/// that memory ran out, which never happens with at most `N` pieces.
 pub fn read_list<R: PieceReader, const N: usize>(
     alloc: Global,
     reader: &R,
@@ -66,7 +65,7 @@ pub fn read_list<R: PieceReader, const N: usize>(
     // What is spelt is read, unless memory runs out.
     ensures only { (list : List R.Value) → Spells (R.value_of reader.now) limit text.now list
         → MatchResult result (λ read. read.items ≡ list) (λ fault. fault ≡ Memory) }
-    // Its storage has room for `N` members, and they take no memory.
+    // The list has room for `N` entries inline, which take no memory.
     ensures room { IfOk result (λ list. N ≤ list.capacity) }
     ensures short { length (pieces text.now) ≤ N → IfErr result (λ fault. fault ≢ Memory) }
 {
@@ -106,9 +105,9 @@ fn read_pieces<R: PieceReader, const N: usize>(
     Ok(list)
 }
 
-/// Reads a text of which each piece stands plainly, with a comma or a newline between any two, as
-/// most texts are: in one pass. A fast path: `false` says nothing of the text, and `read_pieces`
-/// has to read it. It fails only if memory runs out.
+/// Reads in one pass a text whose pieces have no blanks and comments, and a comma or newline
+/// between any two, as most texts do. A fast path: on `false` the caller has to use `read_pieces`.
+/// Fails only if memory runs out.
 fn read_plainly<R: PieceReader, const N: usize>(
     reader: &R,
     limit: usize,

@@ -8,10 +8,11 @@ use super::blanks::trim_blanks;
 use super::parts::{Parts, before_byte};
 use std::marker::Model;
 
-/// The pieces of a text that are still to come. A contract sees the list of them.
+/// The pieces of a text that are still to come: what is between the commas of each line, without
+/// blanks and comments. A contract sees the list of them.
 #[derive(Drop)]
 pub struct Pieces<'a> {
-    /// What is left of the line that was begun.
+    /// The rest of the line that was begun.
     line: Parts<'a>,
     /// The lines after it.
     lines: Parts<'a>,
@@ -35,7 +36,7 @@ impl<'a> Pieces<'a> {
         }
     }
 
-    /// Takes the next piece. `None` if there is none left, now and in each later call.
+    /// Takes the next piece; `None` after the last one, in each later call too.
     pub fn next(&mut self) -> Option<&'a [u8]>
         ensures piece { MatchOption result (self.old ≡ [])
             (λ piece. self.old ≡ piece.now ∷ self.new) }

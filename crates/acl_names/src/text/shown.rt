@@ -1,4 +1,4 @@
-//! How bytes are shown that may be no text.
+//! Showing bytes that may not be text.
 
 ghost use Rattle.std.specs.Prelude.{◌≡◌, take};
 ghost use Rattle.acl_names.specs.Pushing.{Pushes};
@@ -8,8 +8,9 @@ ghost use Rattle.acl_names.specs.declared.limits.TheConstants.{MAX_SHOWN};
 use crate::limits::MAX_SHOWN;
 use std::alloc::AllocError;
 
-/// Appends at most the first `MAX_SHOWN` bytes of a line: printable ones as they are, `\` too, and
-/// others as `\` and three octal digits. If memory runs out, what `out` held still stands in front.
+/// Appends at most the first `MAX_SHOWN` bytes of a line: printable ones and `\` as they are,
+/// others as `\` and three octal digits. Fails only if memory runs out; what `out` held stays in
+/// front.
 pub fn push_shown(line: &[u8], out: &mut Vec<u8>) -> Result<(), AllocError>
     ensures { Pushes (shown line.now) result out.old out.new }
 {
@@ -43,7 +44,7 @@ fn push_shown_byte(byte: u8, out: &mut Vec<u8>) -> Result<(), AllocError>
     }
 }
 
-/// Whether a byte is printable ASCII, `\` too.
+/// Whether a byte is printable ASCII; `\` is.
 pub fn is_printable(byte: u8) -> bool
     ensures { result ≡ is_printable byte }
 {

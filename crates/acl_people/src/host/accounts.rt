@@ -18,19 +18,19 @@ const USERS_FILE: &str = "/etc/passwd";
 /// This host's groups.
 const GROUPS_FILE: &str = "/etc/group";
 
-/// What a fault of these files is reported of: its line is counted through both.
+/// The name under which faults of these files are reported; their lines are numbered through both.
 pub(crate) const OWN_FILES: &str = "/etc/passwd, /etc/group";
 
-/// What is said of accounts that hold too much.
+/// The word that reports accounts with too many users, groups or bytes.
 const TOO_MANY: &str = "too-many";
 
-/// The line of this number of a text, counted from 1.
+/// The line with this number, from 1, of a text.
 fn line_numbered(number: usize, text: &[u8]) -> &[u8]
     ensures { result.now ≡ line_numbered number text.now }
 {
     let mut lines = Parts::new(b'\n', text);
     for _taken in 0..number.saturating_sub(1) {
-        // A line before it is of no use.
+        // The lines before it aren't needed.
         let _ = lines.next();
     }
     match lines.next() {
@@ -39,8 +39,7 @@ fn line_numbered(number: usize, text: &[u8]) -> &[u8]
     }
 }
 
-/// Why the text of this name, which has this fault, gives no accounts. It says what stands in the
-/// line at fault.
+/// Why the text of this name, which has this fault, isn't accounts. It reports the line at fault.
 fn failure_of<'a>(alloc: Global, name: &'a str, text: &[u8], fault: AccountsFault) -> Failure<'a>
     ensures { (known : Option (List ℕ)) (files : List (List ℕ))
         → IfSome known (λ those. text.now ≡ those)
@@ -59,8 +58,7 @@ fn failure_of<'a>(alloc: Global, name: &'a str, text: &[u8], fault: AccountsFaul
     }
 }
 
-/// The bytes of a file of accounts, of which the fault is reported under this name if there are too
-/// many of them.
+/// The bytes of a file of accounts; `name` is how a fault is reported if there are too many.
 fn read_text<'a, F: OpenFiles>(
     alloc: Global,
     files: &F,

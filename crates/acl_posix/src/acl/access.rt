@@ -16,25 +16,25 @@ use acl_names::{Gid, Subject, Uid};
 use bitflags::Flags;
 
 impl Acl {
-    /// Whether the subject may do all of what is requested with a file of this owner and this
+    /// Whether the list grants the subject all of the request, for a file of this owner and this
     /// group: the access check of 1003.1e draft 17, section 23. The owner's entry decides for the
-    /// owner, else the user's own entry, else the entries for the file's group and for groups by
-    /// their ids of which the subject is in some: one of them must have all of the request. Else
-    /// the others' entry decides. If there is a mask, the entries for users, the file's group and
-    /// groups give no more than the mask has. It takes no memory.
+    /// owner; else the user's own entry; else the entries for the subject's groups (the file's
+    /// group and groups by id), one of which must have all of the request; else the others' entry.
+    /// The mask, if there is one, limits the entries for users, the file's group and groups. It
+    /// takes no memory.
     pub fn grants<S: Subject>(&self, owner: Uid, group: Gid, subject: &S, request: Perms) -> bool
         ensures value { result
             ≡ grants self.now owner group (S.identity subject.now) (bits_of request) }
 
-        // The entries count as a set: in any other order they answer alike.
+        // The entries count as a set: in any other order the answer is the same.
         ensures any_order { (entries : List EntryValue) → IsPermutation self.now entries
             → result ≡ grants entries owner group (S.identity subject.now) (bits_of request) }
     {
         decide(self.entries(), owner, group, subject, request)
     }
 
-    /// The effective permissions of an entry: its own, as far as the list's mask leaves them. The
-    /// entry needn't be one of the list.
+    /// The effective permissions of an entry: its own that the list's mask leaves. The entry may
+    /// also be one of another list.
     pub fn effective_perms(&self, entry: &Entry) -> Perms
         ensures { bits_of result ≡ effective_perms self.now entry.now }
     {
@@ -42,8 +42,8 @@ impl Acl {
     }
 }
 
-/// What `Acl::grants` says of the entries of a list, which stand in canonical order: by a search
-/// through them.
+/// `Acl::grants` for the entries of a list, by a search through them. They must be in canonical
+/// order.
 #[inline(always)]
 pub(crate) fn decide<S: Subject>(
     entries: &[Entry],
@@ -69,7 +69,7 @@ pub(crate) fn decide<S: Subject>(
     }
 }
 
-/// Whether the owner's entry, which is the first, has all of the request.
+/// Whether the owner's entry, the first of the list, has all of the request.
 pub(super) fn first_has(entries: &[Entry], request: Perms) -> bool
     requires valid { IsValid entries.now }
     requires canonical { IsCanonical entries.now }
@@ -81,7 +81,7 @@ pub(super) fn first_has(entries: &[Entry], request: Perms) -> bool
     }
 }
 
-/// Whether the others' entry, which is the last, has all of the request.
+/// Whether the others' entry, the last of the list, has all of the request.
 pub(super) fn last_has(entries: &[Entry], request: Perms) -> bool
     requires valid { IsValid entries.now }
     requires canonical { IsCanonical entries.now }
@@ -93,7 +93,7 @@ pub(super) fn last_has(entries: &[Entry], request: Perms) -> bool
     }
 }
 
-/// Whether the entry of the user and the mask have all of the request, if there is such an entry.
+/// Whether the user's own entry and the mask have all of the request; `None` without such an entry.
 fn user_answer(entries: &[Entry], uid: Uid, request: Perms) -> Option<bool>
     requires valid { IsValid entries.now }
     requires canonical { IsCanonical entries.now }
@@ -105,7 +105,7 @@ fn user_answer(entries: &[Entry], uid: Uid, request: Perms) -> Option<bool>
     }
 }
 
-/// Whether the entry with the tag has all of the request, if there is such an entry.
+/// Whether the entry with the tag has all of the request; `None` without such an entry.
 fn tag_answer(entries: &[Entry], tag: Tag, request: Perms) -> Option<bool>
     requires valid { IsValid entries.now }
     requires canonical { IsCanonical entries.now }
@@ -117,8 +117,8 @@ fn tag_answer(entries: &[Entry], tag: Tag, request: Perms) -> Option<bool>
     }
 }
 
-/// Whether an entry for a group of the subject, and the mask, have all of the request, if there is
-/// such an entry.
+/// Whether an entry for a group of the subject, and the mask, have all of the request; `None`
+/// without such an entry.
 fn group_answer<S: Subject>(
     entries: &[Entry],
     subject: &S,
@@ -145,8 +145,8 @@ fn mask_allows(entries: &[Entry], request: Perms) -> bool
     }
 }
 
-/// Whether one of the entries for a group of the subject has all of the request, if there are such
-/// entries. It looks at each entry once, and no further than the first that has it.
+/// Whether an entry for a group of the subject has all of the request; `None` without such an
+/// entry. It stops at the first entry that has it.
 fn groups_answer<S: Subject>(
     entries: &[Entry],
     subject: &S,
@@ -167,7 +167,7 @@ fn groups_answer<S: Subject>(
     answer
 }
 
-/// Whether it is the tag of a group that the subject is in: the file's group, or one by its id.
+/// Whether the tag is that of a group which the subject is in: the file's group, or one by id.
 fn is_for_group_of<S: Subject>(subject: &S, group: Gid, tag: &Tag) -> bool
     ensures { result ≡ is_for_group_of (S.identity subject.now) group tag.now }
 {

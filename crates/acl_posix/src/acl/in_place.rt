@@ -1,4 +1,4 @@
-//! The check of entries that are no list yet: they are put in order where they stand.
+//! The access check over entries in any order, which it sorts in place.
 
 ghost use Rattle.std.specs.List.Sorted.{IsPermutation};
 ghost use Rattle.std.specs.Prelude.{◌≡◌, IsTrue, IfNone, not};
@@ -17,10 +17,8 @@ use crate::sorted_copy::are_canonical;
 use crate::{Entry, Invalid, Perms};
 use acl_names::{Gid, Subject, Uid};
 
-/// Whether the list of these entries, in whatever order they stand, lets the subject do all of what
-/// is requested with a file of this owner and this group, as `Acl::grants` says; or the first thing
-/// that is wrong with them, as `Acl::new` says. It takes no memory: the entries are put in
-/// canonical order where they stand.
+/// `Acl::grants` for the list of these entries, in whatever order they are; or the fault for which
+/// `Acl::new` refuses them. It takes no memory: it sorts the entries in place, in canonical order.
 pub fn entries_grant<S: Subject>(
     entries: &mut [Entry],
     owner: Uid,
@@ -37,7 +35,7 @@ pub fn entries_grant<S: Subject>(
     }
 }
 
-/// What `entries_grant` says, but as Linux decides it: by the list that `Acl::for_linux` makes.
+/// Like `entries_grant`, but as Linux evaluates the list: by the list that `Acl::for_linux` makes.
 pub fn entries_grant_on_linux<S: Subject>(
     entries: &mut [Entry],
     owner: Uid,
@@ -54,7 +52,7 @@ pub fn entries_grant_on_linux<S: Subject>(
     }
 }
 
-/// Puts entries in canonical order, and tells the first thing that is wrong with them.
+/// Sorts entries in canonical order, and returns the first fault that they have.
 fn put_in_order(entries: &mut [Entry]) -> Option<Invalid>
     ensures fault { result ≡ fault_of entries.old }
     ensures valid { IfNone result (IsValid entries.new) }
@@ -65,7 +63,7 @@ fn put_in_order(entries: &mut [Entry]) -> Option<Invalid>
     first_fault(entries, distinct)
 }
 
-/// Puts entries in canonical order, and tells whether no tag stands twice.
+/// Sorts entries in canonical order, and returns whether no tag occurs twice.
 fn sort(entries: &mut [Entry]) -> bool
     ensures permutation { IsPermutation entries.old entries.new }
     ensures canonical { IsTrue result → IsCanonical entries.new }

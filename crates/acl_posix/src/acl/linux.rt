@@ -1,4 +1,4 @@
-//! The list by which Linux decides.
+//! The list by which Linux decides access.
 
 ghost use Rattle.std.specs.Prelude.{◌≡◌, IfOk, IsOk};
 ghost use Rattle.acl_posix.specs.Access.{grants};
@@ -15,10 +15,10 @@ use bitflags::Flags;
 use std::alloc::{AllocError, Global};
 
 impl Acl {
-    /// The list that Linux looks at for a file with this one: this list, or, if its mask has no
-    /// permission, the list of the file's mode. Linux passes over a list with an empty mask, so
-    /// whom it names is decided by the mode like anybody else, where the draft denies (its
-    /// `acl_permission_check`, fs/namei.c). It takes no memory.
+    /// The list that Linux evaluates for a file with this one: this list, or, if its mask is empty,
+    /// the list of the file's mode. Linux ignores a list with an empty mask, so the mode decides
+    /// for users whom the list names too, where the draft denies (`acl_permission_check`,
+    /// fs/namei.c). It takes no memory.
     pub fn for_linux(self, alloc: Global) -> Result<Acl, AllocError>
         ensures value { IfOk result (λ acl. acl ≡ linux_list self) }
         ensures succeeds { IsOk result }
@@ -31,7 +31,7 @@ impl Acl {
 }
 
 /// What Linux decides by the entries of a list, in canonical order. Under an empty mask the owner's
-/// entry and the others' decide as in the list, and the file's group has nothing.
+/// entry and the others' decide as in the list, and the file's group is granted nothing.
 pub(super) fn decide_as_linux<S: Subject>(
     entries: &[Entry],
     owner: Uid,
@@ -56,7 +56,7 @@ pub(super) fn decide_as_linux<S: Subject>(
     last_has(entries, request)
 }
 
-/// Whether there is a mask, and it has no permission.
+/// Whether there is a mask without permissions.
 fn is_mask_empty(entries: &[Entry]) -> bool
     requires { IsCanonical entries.now }
     ensures { result ≡ has_empty_mask entries.now }

@@ -1,4 +1,4 @@
-//! What modes have to do with access control lists.
+//! Modes of access control lists.
 
 ghost use Rattle.std.specs.Prelude.{◌≡◌, ◌≤◌, length, map, IfOk, IsOk, IfSome, option_map};
 ghost use Rattle.acl_posix.specs.Mode.{mode_of, mode_perms, perms_at, group_class_tag, set_to};
@@ -12,7 +12,7 @@ use bitflags::Flags;
 use smallvec::SmallVec;
 use std::alloc::{AllocError, Global};
 
-/// What the mode says of the entry with the tag, if it says anything.
+/// The permissions that the mode has for the entry with the tag; `None` if it has none for it.
 fn mode_perms(group_class: &Tag, mode: Mode, tag: Tag) -> Option<Perms>
     ensures value { option_map bits_of result ≡ mode_perms group_class.now mode tag }
     ensures permissions { IfSome result (λ perms. IsPermissions (bits_of perms)) }
@@ -30,7 +30,7 @@ fn mode_perms(group_class: &Tag, mode: Mode, tag: Tag) -> Option<Perms>
     }
 }
 
-/// The entry with what the mode says of it.
+/// The entry with the mode's permissions, if the mode has some for it.
 fn set_to(group_class: &Tag, mode: Mode, entry: Entry) -> Entry
     ensures { result ≡ set_to group_class.now mode entry }
 {
@@ -43,7 +43,7 @@ fn set_to(group_class: &Tag, mode: Mode, entry: Entry) -> Entry
     }
 }
 
-/// The entry with no more than what the mode says of it.
+/// The entry with only those permissions that the mode also has for it.
 fn limit_to(group_class: &Tag, mode: Mode, entry: Entry) -> Entry
     ensures { result ≡ limit_to group_class.now mode entry }
 {
@@ -73,9 +73,9 @@ fn limit_all(entries: &mut [Entry], group_class: &Tag, mode: Mode)
 }
 
 impl Acl {
-    /// The mode of a file with this access control list (1003.1e draft 17, section 23): what the
-    /// owner's entry, the mask, or if there is none the file's group's entry, and the others' entry
-    /// say.
+    /// The mode of a file with this access control list (1003.1e draft 17, section 23): the
+    /// permissions of the owner's entry, of the mask (without one, of the file's group's entry),
+    /// and of the others' entry.
     pub fn mode(&self) -> Mode
         ensures { result ≡ mode_of self.now }
     {
@@ -86,7 +86,7 @@ impl Acl {
         }
     }
 
-    /// Changes the mode: the entries that the mode stands for, and no other.
+    /// Changes the mode: sets the entries from which `mode` takes it, and no others.
     pub fn chmod(&mut self, mode: Mode)
         ensures { self.new ≡ chmod self.old mode }
     {
@@ -96,8 +96,7 @@ impl Acl {
         set_all(self.sorted.as_mut_slice(), &group_class, mode);
     }
 
-    /// The access control list that says what the mode says, with three entries. It takes no
-    /// memory.
+    /// The access control list of three entries with this mode. It takes no memory.
     pub fn of_mode(alloc: Global, mode: Mode) -> Result<Acl, AllocError>
         ensures value { IfOk result (λ acl. acl ≡ of_mode mode) }
         ensures succeeds { IsOk result }
@@ -123,9 +122,9 @@ impl Acl {
     }
 
     /// The access control list of a new file with this mode, under a default access control list
-    /// (1003.1e draft 17, section 23): the default list, its entries for the owner, the group class
-    /// and the others met with the mode's bits. Fails only if memory runs out, and not up to
-    /// `INLINE_ENTRIES`.
+    /// (1003.1e draft 17, section 23): the default list, whose entries for the owner, the group
+    /// class and the others keep only the mode's bits. Fails only if memory runs out, and never
+    /// with at most `INLINE_ENTRIES`.
     pub fn at_creation(alloc: Global, default: &Acl, mode: Mode) -> Result<Acl, AllocError>
         ensures value { IfOk result (λ acl. acl ≡ at_creation default.now mode) }
         ensures short { length default.now ≤ INLINE_ENTRIES → IsOk result }
@@ -136,8 +135,8 @@ impl Acl {
         Ok(Acl { sorted })
     }
 
-    /// The union of the permissions of the users, the file's group and the groups: what a mask
-    /// would have to be to limit none of them.
+    /// The union of the permissions of the users, the file's group and the groups: the least mask
+    /// that limits none of them.
     pub fn calc_mask(&self) -> Perms
         ensures { bits_of result ≡ calc_mask self.now }
     {
@@ -160,7 +159,7 @@ impl Acl {
         Ok(Acl { sorted })
     }
 
-    /// The tag of the entry that stands for the group in a mode.
+    /// The tag of the entry that has the group's bits of the mode.
     fn group_class_tag(&self) -> Tag
         ensures { result ≡ group_class_tag self.now }
     {
@@ -171,7 +170,7 @@ impl Acl {
         }
     }
 
-    /// The permissions of the entry with the tag; none if there is no such entry.
+    /// The permissions of the entry with the tag; empty if there is no such entry.
     fn perms_at(&self, tag: Tag) -> Perms
         ensures value { bits_of result ≡ perms_at tag self.now }
         ensures permissions { IsPermissions (bits_of result) }

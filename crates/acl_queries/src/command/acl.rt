@@ -1,4 +1,4 @@
-//! Access control lists, as fields write them: with ids, for the directory has no names.
+//! Access control lists in fields: with decimal ids, since no names are known.
 ghost use Rattle.std.specs.Prelude.{◌≡◌, Ok, IfErr, IfOk};
 ghost use Rattle.acl_queries.specs.AclText.{acl_of, nobody};
 ghost use Rattle.acl_cli.specs.Failures.{ExplainsText};
@@ -8,8 +8,8 @@ use acl_names::{Directory, SetupFault};
 use acl_posix::{Acl, ReadAclFault};
 use std::alloc::{AllocError, Global};
 
-/// A directory that knows no user and no group, by which ids are read and printed. It fails only if
-/// memory runs out.
+/// A directory without users and groups, by which ids are read and printed. Fails only if memory
+/// runs out.
 pub fn empty_directory(alloc: Global) -> Result<Directory, AllocError>
     ensures { IfOk result (λ directory. directory ≡ nobody) }
 {
@@ -17,12 +17,12 @@ pub fn empty_directory(alloc: Global) -> Result<Directory, AllocError>
     match Directory::from_parts(alloc, domain, Vec::new(alloc), Vec::new(alloc)) {
         Ok(directory) => Ok(directory),
         Err(SetupFault::Memory) => Err(AllocError),
-        // Nothing else is wrong with them.
+        // Nothing else can be wrong with them.
         Err(_) => unreachable!(),
     }
 }
 
-/// The access control list that a text spells.
+/// Reads an access control list from a text.
 pub(crate) fn read_acl<'a>(alloc: Global, text: &'a str) -> Result<Acl, Failure<'a>>
     ensures read { IfOk result (λ acl. acl_of text.entry.now ≡ Ok acl) }
     ensures refused { IfErr result (ExplainsText (acl_of text.entry.now)) }

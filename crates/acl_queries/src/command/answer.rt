@@ -1,8 +1,8 @@
-//! The line that answers whether a request is granted.
+//! The line of an answer: `granted` or `denied`.
 ghost use Rattle.std.specs.Prelude.{◌≡◌};
 ghost use Rattle.acl_queries.specs.DecideAnswer.{answer_line};
 
-/// The line that says whether a request is granted: `granted` or `denied`.
+/// The line of an answer: `granted` or `denied`, and a newline.
 pub fn answer_line(granted: bool) -> &'static str
     ensures { result.now ≡ answer_line granted }
 {

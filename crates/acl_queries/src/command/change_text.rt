@@ -1,4 +1,4 @@
-//! How it is reported who loses or gains what.
+//! Printing who loses or gains what.
 ghost use Rattle.std.specs.Prelude.{◌≡◌, ◌++◌, OnOk};
 ghost use Rattle.acl_nfs4.specs.Mask.{mask_bits};
 ghost use Rattle.acl_queries.specs.Differences.{bits_text, gids_text};
@@ -8,8 +8,8 @@ use acl_nfs4::{Mask, push_mask};
 use bitflags::Flags;
 use std::alloc::AllocError;
 
-/// Appends the groups of one who is in at most two: their gids between commas, each once, or `-` if
-/// there is none.
+/// Appends the gids of a requester in at most two groups, each once, with a comma between them, or
+/// `-` without groups. Fails only if memory runs out.
 pub fn push_gids(
     gid: Option<Gid>,
     other_gid: Option<Gid>,
@@ -32,7 +32,8 @@ pub fn push_gids(
     Ok(())
 }
 
-/// Appends the letters of what is lost or gained, or `-` if it is nothing.
+/// Appends the letters of what is lost or gained, or `-` if there are none. Fails only if memory
+/// runs out.
 pub fn push_bits(bits: Mask, out: &mut Vec<u8>) -> Result<(), AllocError>
     ensures { OnOk result (out.new.items ≡ out.old.items ++ bits_text (mask_bits bits)) }
 {

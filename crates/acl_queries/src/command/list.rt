@@ -1,4 +1,4 @@
-//! Lists of either style, as fields write them: with ids, for the directory has no names.
+//! Lists of either style in fields: with decimal ids, since no names are known.
 ghost use Rattle.std.specs.Prelude.{◌≡◌, Ok, IfErr, IfOk, codes, option_map};
 ghost use Rattle.clap.specs.Words.{found_of, rows_of};
 ghost use Rattle.acl_posix.specs.declared.acl_text.AclFault.TheVariants.{BadAcl};
@@ -17,7 +17,7 @@ use acl_posix::AclFault;
 use clap::ArgMatches;
 use std::alloc::Global;
 
-/// Why an NFSv4 list isn't read, as a failure of its field.
+/// The failure of a field that isn't an NFSv4 list.
 fn failure_of<'a>(fault: AceFault) -> Failure<'a>
     ensures { result ≡ failure_of_aces fault }
 {
@@ -30,7 +30,7 @@ fn failure_of<'a>(fault: AceFault) -> Failure<'a>
     }
 }
 
-/// The NFSv4 list that a text spells.
+/// Reads an NFSv4 list from a text.
 fn read_acl4<'a>(alloc: Global, text: &'a str) -> Result<Acl4, Failure<'a>>
     ensures read { IfOk result (λ aces. aces_of text.entry.now ≡ Ok aces) }
     ensures refused { IfErr result (ExplainsText (aces_of text.entry.now)) }
@@ -42,7 +42,7 @@ fn read_acl4<'a>(alloc: Global, text: &'a str) -> Result<Acl4, Failure<'a>>
     }
 }
 
-/// The list of this style that a text spells.
+/// Reads a list of this style from a text.
 fn read_list<'a>(alloc: Global, style: Style, text: &'a str) -> Result<AnyAcl, Failure<'a>>
     ensures read { IfOk result (λ acl. list_of style text.entry.now ≡ Ok acl) }
     ensures refused { IfErr result (ExplainsText (list_of style text.entry.now)) }
@@ -53,7 +53,7 @@ fn read_list<'a>(alloc: Global, style: Style, text: &'a str) -> Result<AnyAcl, F
     }
 }
 
-/// The style that a word of its own names.
+/// The style in the word of this name. Fails with `BadStyle` if it is none.
 fn style_field<'a>(matches: &ArgMatches<'a>, name: &str) -> Result<Style, Malformed<'a>>
     ensures { result ≡ of_word name.now (codes "STYLE") style_given
         (rows_of (found_of matches.now)) }
@@ -65,7 +65,7 @@ fn style_field<'a>(matches: &ArgMatches<'a>, name: &str) -> Result<Style, Malfor
     }
 }
 
-/// The list of this style that a word spells, which has to be given.
+/// Reads a list of this style from a word, which must be given.
 fn list_given<'a>(alloc: Global, style: Style, word: Option<&'a str>) -> Result<AnyAcl, Failure<'a>>
     ensures read { IfOk result (λ acl. given (Acl BadAcl) (list_of style)
         (option_map (λ text. text.now) word.entry) ≡ Ok acl) }
@@ -78,7 +78,7 @@ fn list_given<'a>(alloc: Global, style: Style, word: Option<&'a str>) -> Result<
     }
 }
 
-/// The list of this style that a word of its own spells.
+/// Reads a list of this style from the word of this name.
 fn text_of_list<'a>(
     alloc: Global,
     matches: &ArgMatches<'a>,
@@ -97,7 +97,7 @@ fn text_of_list<'a>(
     }
 }
 
-/// The list whose style and text have these names.
+/// The list whose style and text are the words of these names.
 pub(crate) fn list_field<'a>(
     alloc: Global,
     matches: &ArgMatches<'a>,

@@ -1,4 +1,4 @@
-//! Queries of lists: from the fields of a command to what is written.
+//! Queries about lists: from the fields of a command to its answer.
 ghost use Rattle.std.specs.Prelude.{◌≡◌, ℕ, Bool, List, Ok, Result, IfErr, IfOk};
 ghost use Rattle.clap.specs.Words.{Row, found_of, rows_of};
 ghost use Rattle.acl_cli.specs.Commands.{Comes};
@@ -10,30 +10,30 @@ use clap::ArgMatches;
 use std::alloc::{AllocError, Global};
 use std::io::{Read, Write};
 
-/// What a command asks of the lists that its words give.
+/// What a command asks about the lists that its words give.
 pub(crate) trait Query {
-    /// What its fields ask.
+    /// The query that fields mean.
     ghost asked_in: { List Row → Result Self Malformed };
 
-    /// Whether it is told where a malformed field stands.
+    /// Whether failures report the place of a malformed field.
     ghost located: { Bool };
 
-    /// The text answers.
+    /// The text is an answer.
     ghost IsAnswer: { Self → List ℕ → Type 0 };
 
-    /// What the fields ask that the parser of command lines found.
+    /// Reads the query from the fields that the parser found.
     fn read<'a>(alloc: Global, matches: &ArgMatches<'a>) -> Result<Self, Failure<'a>>
         ensures read { IfOk result (λ query. asked_in (rows_of (found_of matches.now)) ≡ Ok query) }
         ensures refused { IfErr result (IsFailureOf located
             (asked_in (rows_of (found_of matches.now)))) };
 
-    /// The text that answers.
+    /// The text of the answer.
     fn answer_text(&self, alloc: Global) -> Result<Vec<u8>, AllocError>
         ensures { IfOk result (λ text. IsAnswer self.now text.items) };
 }
 
-/// Answers what the fields ask, and leaves standard input and standard error as they are. The
-/// answer is made first and then written at once.
+/// Reads the fields, makes the whole answer, and writes it at once. It doesn't touch standard input
+/// and standard error.
 pub(crate) fn answer_query<'a, Q: Query + Drop, I: Read, W: Write, E: Write + Drop>(
     alloc: Global,
     matches: &ArgMatches<'a>,

@@ -11,7 +11,7 @@ const EXAMPLE: &str = "For example:
 Exit status: 0 with an answer, whichever it is; 1 if a field is malformed; 2 if
 the words are wrong; 3 if memory runs out or the answer can't be written.";
 
-/// What stands in the line, in the order of help.
+/// The words of the line, in the order of help.
 const WORDS: [Word<'static>; 6] = [
     OWNER,
     GROUP,
@@ -55,8 +55,8 @@ impl CommandLine for Compare {
     fn line() -> Line<'static> {
         Line {
             name: "compare",
-            about: "Tells whether anybody gains or loses access between two access control lists: \
-                 `alike`, or who does and what.",
+            about: "Reports whether anybody gains or loses access between two access control \
+                 lists: `alike`, or who does and what.",
             after_help: EXAMPLE,
             words: &WORDS,
         }

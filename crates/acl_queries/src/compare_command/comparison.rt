@@ -1,4 +1,4 @@
-//! What the words of `compare` ask, and the answer.
+//! Reading and answering the query of `compare`.
 ghost use Rattle.std.specs.Prelude.{◌≡◌, IfOk, MatchOption, Ok};
 ghost use Rattle.acl_queries.specs.Differences.{AreAlike, Differ, owners_of};
 
@@ -14,7 +14,7 @@ use clap::ArgMatches;
 use std::alloc::{AllocError, Global};
 use std::marker::Model;
 
-/// Two lists, compared for a file of this owner and this group.
+/// Two lists to compare, for a file of this owner and this group.
 #[derive(Drop)]
 pub(super) struct Comparison {
     pub owner: Uid,
@@ -34,7 +34,7 @@ impl Model for Comparison {
 }
 
 impl Comparison {
-    /// The owner and the group.
+    /// The file's owner and group.
     fn owners(&self) -> Owners
         ensures { result ≡ owners_of self.now }
     {
@@ -44,7 +44,7 @@ impl Comparison {
         }
     }
 
-    /// What the lists decide differently, for whom; none if they decide alike for everyone.
+    /// What the lists grant differently, and to whom; `None` if they grant everyone the same.
     fn difference(&self, alloc: Global) -> Result<Option<Difference>, AllocError>
         ensures { IfOk result (λ found. MatchOption found (AreAlike self.now)
             (Differ self.now)) }

@@ -1,4 +1,4 @@
-//! The text that `compare` answers with.
+//! The answer of `compare` as text.
 ghost use Rattle.std.specs.Prelude.{◌≡◌, ◌++◌, IfOk, OnOk};
 ghost use Rattle.acl_queries.specs.Differences.{comparison_text, difference_text};
 
@@ -7,7 +7,7 @@ use acl_names::push_decimal;
 use acl_nfs4::Difference;
 use std::alloc::{AllocError, Global};
 
-/// Appends the lines that tell of a difference.
+/// Appends the lines of a difference.
 fn push_difference(difference: &Difference, out: &mut Vec<u8>) -> Result<(), AllocError>
     ensures { OnOk result (out.new.items ≡ out.old.items ++ difference_text difference.now) }
 {
@@ -23,7 +23,7 @@ fn push_difference(difference: &Difference, out: &mut Vec<u8>) -> Result<(), All
     Ok(())
 }
 
-/// The text for a difference that was found, if any.
+/// The answer for a difference, or for none.
 pub(super) fn answer_text(alloc: Global, found: Option<Difference>) -> Result<Vec<u8>, AllocError>
     ensures { IfOk result (λ text. text.items ≡ comparison_text found) }
 {

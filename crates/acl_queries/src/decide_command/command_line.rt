@@ -8,17 +8,17 @@ use acl_cli::{CommandLine, Given, Line, Word};
 const EXAMPLE: &str = "For example:
   aclctl decide --owner 1000 --group 50 --uid 1001 --gids 50,60 --perms r u::rw,g::r,o::-
 
-Exit status: 0 with an answer, granted or denied; 1 if a field doesn't read;
-2 if the words are wrong, and with this help; 3 if memory runs out or the
+Exit status: 0 with an answer, granted or denied; 1 if a field is malformed;
+2 if the words are wrong, and after this help; 3 if memory runs out or the
 answer can't be written.";
 
-/// What stands in the line, in the order of help.
+/// The words of the line, in the order of help.
 const WORDS: [Word<'static>; 7] = [
     Word {
         given: Given::Flag,
         name: "nfs4",
         value: "",
-        help: "Prints the translation too: the NFSv4 entries that decide alike, one a line",
+        help: "Also prints the NFSv4 list that grants the same, one entry a line",
     },
     OWNER,
     GROUP,
@@ -29,8 +29,7 @@ const WORDS: [Word<'static>; 7] = [
         given: Given::RequiredWord,
         name: "text",
         value: "TEXT",
-        help: "The access control list, as u::rw,g::r,o::-. One that begins with - follows a \
-             word --",
+        help: "The access control list, as u::rw,g::r,o::-. Write -- before it if it begins with -",
     },
 ];
 
@@ -48,7 +47,8 @@ impl CommandLine for Decide {
     fn line() -> Line<'static> {
         Line {
             name: "decide",
-            about: "Tells whether an access control list grants a request: `granted` or `denied`.",
+            about: "Reports whether an access control list grants a request: `granted` or \
+                 `denied`.",
             after_help: EXAMPLE,
             words: &WORDS,
         }

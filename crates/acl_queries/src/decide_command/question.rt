@@ -1,4 +1,4 @@
-//! What the words of `decide` ask.
+//! Reading and answering the query of `decide`.
 ghost use Rattle.std.specs.Prelude.{◌≡◌, Ok, IfErr, IfOk, option_map};
 ghost use Rattle.clap.specs.Words.{found_of, rows_of};
 ghost use Rattle.acl_posix.specs.declared.acl_text.AclFault.TheVariants.{BadAcl};
@@ -21,8 +21,8 @@ use clap::ArgMatches;
 use std::alloc::{AllocError, Global};
 use std::marker::Model;
 
-/// Whether who asks may do what is requested with a file; and, with `nfs4`, what its access control
-/// list translates to.
+/// Whether a requester is granted a request on a file; and, with `nfs4`, the translation of the
+/// file's access control list.
 #[derive(Drop)]
 pub(super) struct Question {
     pub owner: Uid,
@@ -61,7 +61,7 @@ impl Question {
     }
 }
 
-/// The access control list that a word spells, which has to be given.
+/// Reads the access control list from a word, which must be given.
 fn acl_given<'a>(alloc: Global, word: Option<&'a str>) -> Result<Acl, Failure<'a>>
     ensures read { IfOk result (λ acl. given (AclField BadAcl) acl_of
         (option_map (λ text. text.now) word.entry) ≡ Ok acl) }
@@ -86,7 +86,7 @@ fn acl_field<'a>(alloc: Global, matches: &ArgMatches<'a>) -> Result<Acl, Failure
     }
 }
 
-/// What the fields ask, in their order.
+/// Reads the query from the fields, in their order.
 #[tactic(auto, unfolding(crate::specs::Asked::asked_in))]
 fn read_question<'a>(alloc: Global, matches: &ArgMatches<'a>) -> Result<Question, Failure<'a>>
     ensures read { IfOk result (λ question. asked_in (rows_of (found_of matches.now)) ≡ Ok question) }
@@ -119,7 +119,7 @@ impl Query for Question {
 
     ghost IsAnswer = { IsDecideText };
 
-    /// Where a malformed field stands isn't told.
+    /// The place of a malformed field isn't reported.
     fn read<'a>(alloc: Global, matches: &ArgMatches<'a>) -> Result<Question, Failure<'a>> {
         match read_question(alloc, matches) {
             Ok(question) => Ok(question),
@@ -127,7 +127,7 @@ impl Query for Question {
         }
     }
 
-    /// The line, and after it the translation if it is asked for.
+    /// The line of the answer, and after it the translation if the words ask for it.
     fn answer_text(&self, alloc: Global) -> Result<Vec<u8>, AllocError> {
         let mut text = Vec::new(alloc);
         text.extend_from_slice(answer_line(self.is_granted()).as_bytes())?;

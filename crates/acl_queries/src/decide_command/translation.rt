@@ -1,4 +1,4 @@
-//! The translation that `decide --nfs4` shows.
+//! The translation that `decide --nfs4` prints.
 ghost use Rattle.std.specs.Prelude.{◌≡◌, ◌++◌, OnOk};
 ghost use Rattle.acl_queries.specs.DecideAnswer.{translation_text};
 
@@ -7,8 +7,8 @@ use acl_bridge::translate;
 use acl_posix::Acl;
 use std::alloc::{AllocError, Global};
 
-/// Appends the entries of the NFSv4 list that an access control list translates to, one a line,
-/// with ids in decimal.
+/// Appends the entries of the NFSv4 list to which an access control list translates, one a line,
+/// with decimal ids.
 pub(super) fn print_translation(
     alloc: Global,
     acl: &Acl,

@@ -11,7 +11,7 @@ const EXAMPLE: &str = "For example:
 Exit status: 0 with an answer, granted or denied; 1 if a field is malformed; 2
 if the words are wrong; 3 if memory runs out or the answer can't be written.";
 
-/// What stands in the line, in the order of help.
+/// The words of the line, in the order of help.
 const WORDS: [Word<'static>; 7] = [
     OWNER,
     GROUP,
@@ -46,7 +46,7 @@ impl CommandLine for Explain {
     fn line() -> Line<'static> {
         Line {
             name: "explain",
-            about: "Tells why an access control list grants or denies a request: which entries \
+            about: "Reports why an access control list grants or denies a request: which entries \
                  decide.",
             after_help: EXAMPLE,
             words: &WORDS,

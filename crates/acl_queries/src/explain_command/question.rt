@@ -1,4 +1,4 @@
-//! What the words of `explain` ask.
+//! Reading the query of `explain`.
 ghost use Rattle.std.specs.Prelude.{Ok};
 
 use super::text::explanation_text;
@@ -13,7 +13,7 @@ use clap::ArgMatches;
 use std::alloc::{AllocError, Global};
 use std::marker::Model;
 
-/// Why who asks may do what is requested with a file, or may not.
+/// Why a requester is granted a request on a file, or isn't.
 #[derive(Drop)]
 pub(super) struct Question {
     pub owner: Uid,

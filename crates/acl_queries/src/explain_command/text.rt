@@ -1,4 +1,4 @@
-//! The text that `explain` answers with.
+//! The answer of `explain` as text.
 ghost use Rattle.std.specs.Prelude.{◌≡◌, ◌↔◌, ◌++◌, IfOk, IsTrue, OnOk};
 ghost use Rattle.acl_nfs4.specs.Evaluation.{Grants};
 ghost use Rattle.acl_nfs4.specs.Mask.{mask_of};
@@ -38,7 +38,7 @@ impl Question {
         }
     }
 
-    /// The answer.
+    /// Whether the request is granted.
     fn is_granted(&self) -> bool
         ensures { Decides self.now.asked self.now.acl result }
     {
@@ -49,7 +49,7 @@ impl Question {
         }
     }
 
-    /// Appends why it is so.
+    /// Appends the entries that decide.
     fn push_reasons(&self, directory: &Directory, out: &mut Vec<u8>) -> Result<(), AllocError>
         ensures { OnOk result (out.new.items ≡ out.old.items
             ++ reasons directory.now self.now.asked self.now.acl) }
@@ -58,7 +58,7 @@ impl Question {
     }
 }
 
-/// The text that answers.
+/// The text of the answer.
 pub(super) fn explanation_text(alloc: Global, question: &Question) -> Result<Vec<u8>, AllocError>
     ensures { IfOk result (λ text. IsExplanation question.now text.items) }
 {

@@ -1,4 +1,4 @@
-//! Why an NFSv4 list decides as it does.
+//! The entries of an NFSv4 list that decide.
 ghost use Rattle.std.specs.Prelude.{◌≡◌, ◌<◌, ◌+◌, ◌++◌, OnOk, codes, decimal};
 ghost use Rattle.acl_nfs4.specs.Mask.{mask_bits};
 ghost use Rattle.acl_nfs4.specs.PrintedText.{ace_text};
@@ -14,7 +14,7 @@ use bitflags::Flags;
 use itoa::Buffer;
 use std::alloc::AllocError;
 
-/// Appends the place of an entry, counted from 1, and the entry.
+/// Appends the place of an entry, from 1, and the entry.
 fn push_placed(
     place: usize,
     ace: &Ace,
@@ -30,7 +30,7 @@ fn push_placed(
     push_ace(ace, directory, out)
 }
 
-/// Appends who speaks: the entry at the place, or nobody.
+/// Appends the entry at the place, or hyphens for none.
 fn push_speaker(
     acl: &Acl4,
     place: Option<usize>,
@@ -49,8 +49,9 @@ fn push_speaker(
     }
 }
 
-/// Appends the line of a bit, a mask of one.
-fn push_bit(
+/// Appends the line of a bit, a mask of one: its letter, and the first entry that allows or denies
+/// it to the requester, or `- -` if none does. Fails only if memory runs out.
+pub fn push_bit(
     bit: Mask,
     asked: &FileRequest<'_>,
     acl: &Acl4,
@@ -70,7 +71,7 @@ fn push_bit(
     Ok(())
 }
 
-/// Appends the line of a bit, if it is asked for.
+/// Appends the line of a bit, if it is in the mask.
 fn push_bit_if(
     bit: Mask,
     mask: Mask,
@@ -89,8 +90,8 @@ fn push_bit_if(
     Ok(())
 }
 
-/// Appends a line for each bit that is asked for: its letter, and the entry that speaks first of
-/// it, as [`Explain`](crate::Explain) tells it. It fails only if memory runs out.
+/// Appends a line for each bit that is requested: its letter, and the first entry that allows or
+/// denies it, as [`Explain`](crate::Explain) reports it. Fails only if memory runs out.
 pub(super) fn push_nfs4_reasons(
     asked: &FileRequest<'_>,
     acl: &Acl4,

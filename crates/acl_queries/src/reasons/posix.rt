@@ -1,4 +1,4 @@
-//! Why a POSIX list decides as it does.
+//! The entries of a POSIX list that decide.
 ghost use Rattle.std.specs.Prelude.{◌≡◌, ◌++◌, OnOk, option_map};
 ghost use Rattle.std.specs.List.{flat_map};
 ghost use Rattle.acl_posix.specs.Perms.{bits_of};
@@ -32,7 +32,7 @@ fn push_class(class: Class, out: &mut Vec<u8>) -> Result<(), AllocError>
     Ok(())
 }
 
-/// Appends the line of an entry that is of the class.
+/// Appends the line of an entry of the class.
 fn push_entry_line(
     entry: &Entry,
     acl: &Acl,
@@ -71,7 +71,7 @@ fn push_entry_line_if(
     Ok(())
 }
 
-/// Appends the lines of those entries of the list that are of the class.
+/// Appends the lines of the entries that are of the class.
 fn push_entries(
     entries: &[Entry],
     class: Class,
@@ -126,7 +126,7 @@ fn push_class_reasons(
 }
 
 /// Appends the class of entries that decides, its entries, and the mask if it limits them, one a
-/// line, as [`Explain`](crate::Explain) tells it. It fails only if memory runs out.
+/// line, as [`Explain`](crate::Explain) reports it. Fails only if memory runs out.
 pub(super) fn push_posix_reasons(
     asked: &FileRequest<'_>,
     acl: &Acl,

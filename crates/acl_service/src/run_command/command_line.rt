@@ -16,7 +16,7 @@ const FILES: &str = "A setup is a TOML file:
   root = { owner = \"alice\", group = \"staff\", mode = \"755\", style = \"posix\" }
   user = [ { name = \"alice\", uid = 1000, groups = [\"staff\"] } ]
   group = [ { name = \"staff\", gid = 50 } ]
-A session has a command a line, and each answer tells its line's number:
+A session has one command a line, and each answer begins with its line's number:
   create dir /plans alice 750
   set /plans access u::rwx,u:1001:rx,g::rx,m::rx,o::-
   check /plans alice rw
@@ -34,20 +34,20 @@ pub const SESSION_WORDS: Word<'static> = Word {
     help: "A file with a session's commands, or - for standard input; at most 64",
 };
 
-/// What stands in the line, in the order of help.
+/// The words of the line, in the order of help.
 const WORDS: [Word<'static>; 4] = [
     SETUP,
     Word {
         given: Given::Flag,
         name: "journal",
         value: "",
-        help: "Prints the order in which the commands took effect: session and line of each",
+        help: "Also prints the order in which the commands took effect: session and line of each",
     },
     Word {
         given: Given::CountOption(65_535),
         name: "max-errors",
         value: "K",
-        help: "Ends a session at its error of this number, 1 to 65535",
+        help: "Ends a session at its Kth error, 1 to 65535",
     },
     SESSION_WORDS,
 ];
@@ -72,8 +72,7 @@ impl CommandLine for RunLine {
     }
 }
 
-/// The names of the sessions' files. There is one at least: the parser of command lines lets
-/// nothing else through.
+/// The names of the sessions' files, at least one: the parser lets nothing else through.
 #[tactic(auto, unfolding(crate::specs::RunWords::sessions_in))]
 pub fn session_names<'m, 'a>(matches: &'m ArgMatches<'a>) -> &'m [&'a str]
     ensures { map (λ name. name.now) result.now ≡ sessions_in (rows_of (found_of matches.now)) }

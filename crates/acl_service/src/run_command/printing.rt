@@ -58,7 +58,7 @@ fn write_texts<W: Write>(texts: &[&[u8]], out: &mut W) -> io::Result<()>
     Ok(())
 }
 
-/// Writes the output of each session after a line that tells which it is.
+/// Writes the output of each session after a line that reports which it is.
 fn write_sessions<W: Write>(outputs: &[Vec<u8>], out: &mut W) -> io::Result<()>
     ensures written { OnOk result (Appends (W.contents out.old) (W.contents out.new)
         (sessions_text 0 (map (λ output. output.items) outputs.now))) }
@@ -76,7 +76,7 @@ fn write_sessions<W: Write>(outputs: &[Vec<u8>], out: &mut W) -> io::Result<()>
     Ok(())
 }
 
-/// Writes the outputs of the sessions. That of a single one stands by itself.
+/// Writes the outputs of the sessions. That of a single one has no heading.
 pub(super) fn write_outputs<W: Write>(outputs: &[Vec<u8>], out: &mut W) -> io::Result<()>
     ensures written { OnOk result (Appends (W.contents out.old) (W.contents out.new)
         (outputs_text (map (λ output. output.items) outputs.now))) }

@@ -26,16 +26,16 @@ use std::sync::Wait;
 use std::thread::Threads;
 use std::time::Clock;
 
-/// What is asked of a run besides the outputs.
+/// What a run prints besides the outputs, and when it ends sessions.
 #[derive(Clone, Copy)]
 pub(super) struct Options {
     /// Whether the journal is printed.
     pub journal: bool,
-    /// How many errors end a session, if any number does.
+    /// After how many errors a session ends, if that is limited.
     pub max_errors: Option<u32>,
 }
 
-/// Writes the outputs of a run, and after them its journal if that is asked for. All that takes
+/// Writes the outputs of a run, and after them its journal if `options` ask for it. All that takes
 /// memory comes first.
 fn print_report<'n, W: Write>(
     alloc: Global,
@@ -85,7 +85,7 @@ fn print_session<'n, W: Write>(
     Ok(())
 }
 
-/// Runs all sessions at the same time, and writes what is reported of them.
+/// Runs all sessions at the same time, and writes what is reported for them.
 fn print_sessions<'n, R: Threads + Wait + Clock + Sync, G: Gate, W: Write>(
     rt: &R,
     alloc: Global,

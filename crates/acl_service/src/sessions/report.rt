@@ -1,4 +1,4 @@
-//! What is reported of sessions.
+//! What is reported for sessions.
 ghost use Rattle.std.specs.Prelude.{◌≡◌, IfOk};
 ghost use Rattle.acl_service.specs.ReportOf.{IsReportOf, report_of};
 
@@ -10,14 +10,14 @@ use acl_runs::{RunReport, ServeFault};
 use acl_tree::Tree;
 use std::alloc::{AllocError, Global};
 
-/// What came of a run of which the outputs and the lines of the journal are wanted alone.
+/// The result of a run of which only the outputs and the lines of the journal are needed.
 pub(crate) type RunInPrint<'a> = RunReport<
     ServedInPrint<'a>,
     KeptEntry<ServedInPrint<'a>>,
     PrintedAnswer,
 >;
 
-/// What came of a run of sessions on one tree. `answers` and `outputs` have a place for each
+/// The result of a run of sessions on one tree. `answers` and `outputs` have a place for each
 /// session.
 #[derive(Drop)]
 pub struct Report {
@@ -27,7 +27,7 @@ pub struct Report {
     pub answers: Vec<Vec<Answer>>,
     /// Each session's answers as they are printed.
     pub outputs: Vec<Vec<u8>>,
-    /// The tree that the commands leave.
+    /// The tree after all commands.
     pub tree: Tree,
 }
 

@@ -27,7 +27,7 @@ impl Tree {
         node.set_access(alloc, acl)
     }
 
-    /// Sets the default list of the directory at the path, or takes it away.
+    /// Sets the default list of the directory at the path, or removes it.
     pub(super) fn set_default(
         &mut self,
         alloc: Global,
@@ -67,7 +67,7 @@ impl Tree {
         node.change_mode(alloc, mode)
     }
 
-    /// Creates a node at the path, with lists of the style of the directory that it lies in.
+    /// Creates a node at the path, with lists of its directory's style.
     pub(super) fn create(
         &mut self,
         alloc: Global,

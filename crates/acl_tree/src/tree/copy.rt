@@ -6,7 +6,7 @@ use indexmap::IndexMap;
 use std::alloc::{AllocError, Global};
 
 impl Tree {
-    /// A copy of the tree, with copies of its lists. It fails only if memory runs out.
+    /// Clones the tree, with its lists. Fails only if memory runs out.
     pub fn try_clone(&self, alloc: Global) -> Result<Tree, AllocError>
         ensures { IfOk result (λ clone. clone ≡ self.now) }
     {

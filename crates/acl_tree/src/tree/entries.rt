@@ -1,4 +1,4 @@
-//! The nodes of a tree, in the order of their paths.
+//! The nodes of a tree, sorted by path.
 ghost use Rattle.std.specs.Prelude.{◌≡◌, ℕ, List, map as each, IfOk, bytes_eq};
 ghost use Rattle.std.specs.Cmp.Lexicographic.{slice_cmp};
 ghost use Rattle.std.specs.FinMap as map;
@@ -33,7 +33,7 @@ fn entries_of(
     Ok(entries)
 }
 
-/// Puts the entries in the order of their paths.
+/// Sorts the entries by path.
 fn sort(entries: &mut Vec<(&[u8], &Node)>)
     ensures permutation { IsPermutation (each (deref_pair {K = List ℕ} {X = NodeValue})
         entries.old.items) (each deref_pair entries.new.items) }
@@ -44,8 +44,8 @@ fn sort(entries: &mut Vec<(&[u8], &Node)>)
 }
 
 impl Tree {
-    /// The nodes with the bytes of their paths, in the order of these, in which a directory stands
-    /// before what is in it. It fails only if memory runs out.
+    /// The nodes with the bytes of their paths, sorted by these bytes: a directory comes before its
+    /// content. Fails only if memory runs out.
     pub fn entries(&self, alloc: Global) -> Result<Vec<(&[u8], &Node)>, AllocError>
         ensures { IfOk result (λ entries. each (deref_pair {K = List ℕ} {X = NodeValue})
             entries.items ≡ map.entries self.now.nodes) }

@@ -1,4 +1,4 @@
-//! The commands that ask.
+//! The commands that change nothing.
 ghost use Rattle.std.specs.Prelude.{◌≡◌, []};
 ghost use Rattle.acl_names.specs.Directory.{requester_of};
 ghost use Rattle.acl_nfs4.specs.Mask.{mask_bits};
@@ -14,15 +14,15 @@ use acl_nfs4::Mask;
 use acl_posix::Perms;
 use std::alloc::Global;
 
-/// The reply to whether something may be done.
+/// The reply to a check.
 fn granted_or_denied(may: bool) -> Reply
     ensures { result ≡ granted_or_denied may }
 {
     if may { Reply::Granted } else { Reply::Denied }
 }
 
-/// The requester for the uid of `stranger`: the directory's own, or `stranger`, who is in no group,
-/// if the directory has no such user.
+/// The directory's requester with the uid of `stranger`, or, without such a user, `stranger`, who
+/// is in no group.
 fn requester_or_stranger<'a>(directory: &'a Directory, stranger: &'a Requester) -> &'a Requester
     requires { stranger.now.gids ≡ [] }
     ensures { result.now ≡ requester_of directory.now stranger.now.uid }
@@ -43,8 +43,8 @@ impl Tree {
         Ok(Reply::Node(Boxed::new(alloc, view)?))
     }
 
-    /// Whether the list of the node at the path grants the user each of the permissions. It takes
-    /// no memory.
+    /// Whether the list of the node at the path grants the user all of the permissions. It takes no
+    /// memory.
     pub(super) fn check(
         &self,
         alloc: Global,

@@ -1,4 +1,4 @@
-//! The nodes of a tree, in the order in which it is gone through.
+//! The nodes of a tree, in the order of a walk.
 ghost use Rattle.std.specs.Prelude.{◌≡◌, ℕ, List, map as each, IfOk};
 ghost use Rattle.std.specs.Cmp.Lexicographic.{slice_cmp};
 ghost use Rattle.std.specs.List.Sorted.{IsPermutation, IsSortedByKey};
@@ -13,7 +13,7 @@ use crate::Node;
 use std::alloc::{AllocError, Global};
 use std::cmp::Ordering;
 
-/// What a byte of a path counts as: a slash as less than every other.
+/// The rank of a byte of a path: a slash is before every other.
 fn rank(byte: u8) -> u8
     ensures { result ≡ rank_of byte }
 {
@@ -40,7 +40,7 @@ fn compare_steps(one: &[u8], other: &[u8]) -> Ordering
     }
 }
 
-/// Puts the entries in the order of their paths, step by step.
+/// Sorts the entries by path, step by step.
 fn sort_by_steps(entries: &mut Vec<(&[u8], &Node)>)
     ensures permutation { IsPermutation (each (deref_pair {K = List ℕ} {X = NodeValue})
         entries.old.items) (each deref_pair entries.new.items) }
@@ -51,8 +51,8 @@ fn sort_by_steps(entries: &mut Vec<(&[u8], &Node)>)
 }
 
 impl Tree {
-    /// The nodes with the bytes of their paths, step by step: each directory stands before what is
-    /// in it, and all of that before anything else. It fails only if memory runs out.
+    /// The nodes with the bytes of their paths, in the order of a walk: each directory comes before
+    /// its content, and that before anything else. Fails only if memory runs out.
     pub fn walk(&self, alloc: Global) -> Result<Vec<(&[u8], &Node)>, AllocError>
         ensures { IfOk result (λ entries. IsWalk self.now
             (each (deref_pair {K = List ℕ} {X = NodeValue}) entries.items)) }

@@ -4,23 +4,23 @@ use super::Dump;
 use acl_cli::options::SETUP;
 use acl_cli::{CommandLine, Given, Line, Word};
 
-/// What is reported, and what the exit statuses are.
-const ANSWERS: &str = "The session closes the root, creates each file in the order of the paths, and
-gives each its lists. Run over the same setup, it makes the same tree. Ids are
-decimal.
+/// The end of help: the answer, and the exit statuses.
+const ANSWERS: &str = "Prints a session that first takes all permissions from the root, and then
+creates each file in the order of the paths and sets its lists. Run over the
+same setup, it makes the same tree. Ids are decimal.
 
 Exit status: 0 with an answer; 1 if a file can't be read or a line would be too
 long; 2 if the words are wrong; 3 if memory runs out or the answer can't be
 written.";
 
-/// What stands in the line, in the order of help.
+/// The words of the line, in the order of help.
 const WORDS: [Word<'static>; 2] = [
     SETUP,
     Word {
         given: Given::Word,
         name: "session",
         value: "SESSION",
-        help: "A file with a session's commands, which come first, or - for standard input",
+        help: "A file with commands to run first, or - for standard input",
     },
 ];
 

@@ -4,26 +4,26 @@ use super::List;
 use acl_cli::options::SETUP;
 use acl_cli::{CommandLine, Given, Line, Word};
 
-/// What is reported, and what the exit statuses are.
+/// The end of help: the answer, and the exit statuses.
 const ANSWERS: &str = "For example, who may do what in the tree of a setup:
   aclctl list --setup S > tree; aclctl who --accounts A tree
 
-A block for each node, a directory before what is in it, as getfacl -Rnp and
-nfs4_getfacl print it: its path, its owner and its group, and its entries. Ids
-are decimal. An NFSv4 list without entries has no line, and whoever reads the
-listing says that this file has no list.
+Prints a block for each node, a directory before its content, as getfacl -Rnp
+and nfs4_getfacl print it: its path, owner, group and entries. Ids are decimal.
+An NFSv4 list without entries gives a block without entries, which the other
+commands refuse.
 
 Exit status: 0 with an answer; 1 if a file can't be read; 2 if the words are
 wrong; 3 if memory runs out or the answer can't be written.";
 
-/// What stands in the line, in the order of help.
+/// The words of the line, in the order of help.
 const WORDS: [Word<'static>; 2] = [
     SETUP,
     Word {
         given: Given::Word,
         name: "session",
         value: "SESSION",
-        help: "A file with a session's commands, which come first, or - for standard input",
+        help: "A file with commands to run first, or - for standard input",
     },
 ];
 
@@ -40,7 +40,7 @@ impl CommandLine for List {
     fn line() -> Line<'static> {
         Line {
             name: "list",
-            about: "Prints a tree as a listing, which the other commands read.",
+            about: "Prints a tree as a listing that the other commands read.",
             after_help: ANSWERS,
             words: &WORDS,
         }

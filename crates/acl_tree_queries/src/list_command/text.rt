@@ -8,7 +8,7 @@ ghost use Rattle.acl_tree.specs.Path.{is_path};
 ghost use Rattle.acl_tree.specs.Shape.{NodesAreAtPaths};
 ghost use Rattle.acl_tree.specs.Walk.{IsWalk};
 ghost use Rattle.acl_tree.specs.declared.node.Node.{Node as NodeValue};
-ghost use Rattle.acl_tree_queries.specs.ListAnswer.{file_at, lists_of};
+ghost use Rattle.acl_tree_queries.specs.ListAnswer.{HasPathsOf, file_at, lists_of};
 
 use acl_listings::{push_header, push_nfs4, push_posix};
 use acl_tree::{Node, NodeAcl, Tree};
@@ -58,7 +58,8 @@ pub(super) fn push_tree(alloc: Global, tree: &Tree, out: &mut Vec<u8>) -> Result
     requires { NodesAreAtPaths tree.now }
     ensures { OnOk result ((entries : List Entry) × IsWalk tree.now entries
         × (out.new.items ≡ out.old.items ++ files_text (each file_at entries))
-        × SaysFiles (each file_at entries) (files_text (each file_at entries))) }
+        × SaysFiles (each file_at entries) (files_text (each file_at entries))
+        × HasPathsOf entries (files_text (each file_at entries))) }
 {
     let entries = tree.walk(alloc)?;
     push_nodes(entries.as_slice(), out)

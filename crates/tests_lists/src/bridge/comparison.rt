@@ -1,5 +1,5 @@
 //! Lists compared for everyone: the file is alice's, whose uid is 1000, and the group's staff. What
-//! a comparison tells is tested where it is printed, in acl_queries.
+//! a comparison reports is tested where it is printed, in acl_queries.
 use crate::files::owner_and_group;
 use acl_bridge::request_difference;
 use acl_names::Gid;
@@ -10,10 +10,10 @@ use tests_common::acl;
 
 /// Whether the first of two lists grants the permissions together, and the groups of whom the
 /// second treats otherwise; none where nobody is.
-type Told = Option<(bool, [Option<Gid>; 2])>;
+type Reported = Option<(bool, [Option<Gid>; 2])>;
 
-/// What is reported of the two lists.
-fn told(alloc: Global, first: &str, second: &str, request: Perms) -> Option<Told> {
+/// What is reported for the two lists.
+fn reported(alloc: Global, first: &str, second: &str, request: Perms) -> Option<Reported> {
     let (alice, staff) = owner_and_group()?;
     let before = acl(alloc, first)?;
     let after = acl(alloc, second)?;
@@ -35,9 +35,9 @@ const DIVIDED: &str = "u::-,g::r,g:ops:w,m::rw,o::-";
 fn reading_and_writing_at_once(rt: HostRuntime) {
     let joined = "u::-,g::r,g:ops:rw,m::rw,o::-";
     let both = Perms::READ | Perms::WRITE;
-    let alike = told(rt.alloc(), DIVIDED, DIVIDED, both);
+    let alike = reported(rt.alloc(), DIVIDED, DIVIDED, both);
     assert_eq!(rt; alike, Some(None));
-    let found = told(rt.alloc(), DIVIDED, joined, both);
+    let found = reported(rt.alloc(), DIVIDED, joined, both);
     let groups = [Gid::new(50), Gid::new(60)];
     assert_eq!(rt; found, Some(Some((false, groups))));
 }

@@ -75,7 +75,7 @@ fn translate_under_a_refused_growth(rt: HostRuntime) -> Result<(), Fail> {
     let mut refusals = Refusals::new();
     let counts = translated_again(rt.alloc(), false, &mut refusals);
     assert_eq!(rt; counts, Some([64, 125]));
-    println!(rt; "refusals: {}", refusals.told())?;
+    println!(rt; "refusals: {}", refusals.reported())?;
     Ok(())
 }
 
@@ -84,6 +84,6 @@ fn translate_default_under_a_refused_growth(rt: HostRuntime) -> Result<(), Fail>
     let mut refusals = Refusals::new();
     let counts = translated_again(rt.alloc(), true, &mut refusals);
     assert_eq!(rt; counts, Some([64, 125]));
-    println!(rt; "refusals: {}", refusals.told())?;
+    println!(rt; "refusals: {}", refusals.reported())?;
     Ok(())
 }

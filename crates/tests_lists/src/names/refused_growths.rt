@@ -40,7 +40,7 @@ fn uid_of_bob(alloc: Global, refusals: &mut Refusals) -> Option<u32> {
 fn from_parts_under_a_refused_growth(rt: HostRuntime) -> Result<(), Fail> {
     let mut refusals = Refusals::new();
     assert_eq!(rt; uid_of_bob(rt.alloc(), &mut refusals), Some(1001));
-    println!(rt; "refusals: {}", refusals.told())?;
+    println!(rt; "refusals: {}", refusals.reported())?;
     Ok(())
 }
 
@@ -53,12 +53,12 @@ fn faulty(alloc: Global) -> Option<Option<SetupFault>> {
 }
 
 #[test]
-fn a_fault_is_told_before_memory(rt: HostRuntime) -> Result<(), Fail> {
+fn a_fault_is_reported_before_memory(rt: HostRuntime) -> Result<(), Fail> {
     let alloc = rt.alloc();
     let mut refusals = Refusals::new();
     let found = refusals.again(|| faulty(alloc));
     assert_eq!(rt; found, Some(Some(SetupFault::UnknownGroup)));
-    println!(rt; "refusals: {}", refusals.told())?;
+    println!(rt; "refusals: {}", refusals.reported())?;
     Ok(())
 }
 
@@ -74,7 +74,7 @@ fn requester_again(alloc: Global, refusals: &mut Refusals) -> Option<usize> {
 fn requester_under_a_refused_growth(rt: HostRuntime) -> Result<(), Fail> {
     let mut refusals = Refusals::new();
     assert_eq!(rt; requester_again(rt.alloc(), &mut refusals), Some(2));
-    println!(rt; "refusals: {}", refusals.told())?;
+    println!(rt; "refusals: {}", refusals.reported())?;
     Ok(())
 }
 
@@ -94,7 +94,7 @@ fn asker_again(alloc: Global, refusals: &mut Refusals) -> Option<usize> {
 fn asker_under_a_refused_growth(rt: HostRuntime) -> Result<(), Fail> {
     let mut refusals = Refusals::new();
     assert_eq!(rt; asker_again(rt.alloc(), &mut refusals), Some(2));
-    println!(rt; "refusals: {}", refusals.told())?;
+    println!(rt; "refusals: {}", refusals.reported())?;
     Ok(())
 }
 
@@ -114,6 +114,6 @@ fn push_id_under_a_refused_growth(rt: HostRuntime) -> Result<(), Fail> {
     let mut refusals = Refusals::new();
     let put = is_id_again(rt.alloc(), 4294967294, "4294967294", &mut refusals);
     assert!(rt; put);
-    println!(rt; "refusals: {}", refusals.told())?;
+    println!(rt; "refusals: {}", refusals.reported())?;
     Ok(())
 }

@@ -8,10 +8,10 @@ use tests_common::acl4;
 
 /// A difference: the uid, the gid and the other gid of whom it is reported, where 0 stands for
 /// none, and the bits that are lost and gained.
-type Told = (u32, u32, u32, &'static str, &'static str);
+type Reported = (u32, u32, u32, &'static str, &'static str);
 
 /// Two lists, the bits that are asked, and what they decide differently of them, if anything.
-const ROWS: [(&str, &str, &str, Option<Told>); 6] = [
+const ROWS: [(&str, &str, &str, Option<Reported>); 6] = [
     (
         "A::OWNER@:r,A::EVERYONE@:r",
         "A::EVERYONE@:r",
@@ -68,7 +68,7 @@ fn between(alloc: Global, first: &str, second: &str, letters: &str) -> Option<Op
 }
 
 /// The difference that is reported.
-fn told((uid, gid, other_gid, lost, gained): Told) -> Option<Difference> {
+fn reported((uid, gid, other_gid, lost, gained): Reported) -> Option<Difference> {
     Some(Difference {
         asker: Asker {
             uid: Uid::new(uid)?,
@@ -88,7 +88,7 @@ fn told((uid, gid, other_gid, lost, gained): Told) -> Option<Difference> {
 fn what_two_lists_decide_differently(rt: HostRuntime) -> Result<(), Fail> {
     for (first, second, letters, difference) in ROWS {
         let wanted = match difference {
-            Some(row) => Some(told(row).ok_or("a difference")?),
+            Some(row) => Some(reported(row).ok_or("a difference")?),
             None => None,
         };
         let found = between(rt.alloc(), first, second, letters);

@@ -1,7 +1,7 @@
 //! Calls that may run out of memory: one failed allocation, wherever it falls, is reported by the
 //! call in which it falls, leaves everything as it was, and the call may be made again.
 //!
-//! scripts/refused-growths fails one allocation of a test after the other. Each test here passes
+//! tests/refused-growths fails one allocation of a test after the other. Each test here passes
 //! whichever allocation that is, and prints how many failures it saw.
 use crate::texts::is_spelt;
 use acl_names::{Directory, Uid};
@@ -94,7 +94,7 @@ fn pushed_again(alloc: Global, refusals: &mut Refusals) -> Option<usize> {
 fn push_under_a_refused_growth(rt: HostRuntime) -> Result<(), Fail> {
     let mut refusals = Refusals::new();
     assert_eq!(rt; pushed_again(rt.alloc(), &mut refusals), Some(128));
-    println!(rt; "refusals: {}", refusals.told())?;
+    println!(rt; "refusals: {}", refusals.reported())?;
     Ok(())
 }
 
@@ -108,7 +108,7 @@ fn read_again(alloc: Global, refusals: &mut Refusals) -> Option<usize> {
 fn read_aces_under_a_refused_growth(rt: HostRuntime) -> Result<(), Fail> {
     let mut refusals = Refusals::new();
     assert_eq!(rt; read_again(rt.alloc(), &mut refusals), Some(17));
-    println!(rt; "refusals: {}", refusals.told())?;
+    println!(rt; "refusals: {}", refusals.reported())?;
     Ok(())
 }
 
@@ -150,7 +150,7 @@ fn print_aces_under_a_refused_growth(rt: HostRuntime) -> Result<(), Fail> {
     let printed = printed_behind(rt.alloc(), &mut refusals);
     // 9 lines of 8 bytes, and 8 of 9, after the one that stood there.
     assert_eq!(rt; printed, Some((true, 145, true)));
-    println!(rt; "refusals: {}", refusals.told())?;
+    println!(rt; "refusals: {}", refusals.reported())?;
     Ok(())
 }
 
@@ -173,7 +173,7 @@ fn print_aces_with_little_room_under_a_refused_growth(rt: HostRuntime) -> Result
     let mut refusals = Refusals::new();
     let printed = printed_in_little_room(rt.alloc(), &mut refusals);
     assert_eq!(rt; printed, Some((true, 144)));
-    println!(rt; "refusals: {}", refusals.told())?;
+    println!(rt; "refusals: {}", refusals.reported())?;
     Ok(())
 }
 
@@ -197,7 +197,7 @@ fn print_aces_with_room_under_a_refused_growth(rt: HostRuntime) -> Result<(), Fa
     let mut refusals = Refusals::new();
     let printed = printed_in_room(rt.alloc(), &mut refusals);
     assert_eq!(rt; printed, Some((true, 144)));
-    println!(rt; "refusals: {}", refusals.told())?;
+    println!(rt; "refusals: {}", refusals.reported())?;
     Ok(())
 }
 
@@ -227,7 +227,7 @@ fn chmod4_under_a_refused_growth(rt: HostRuntime) -> Result<(), Fail> {
     let mut refusals = Refusals::new();
     // The owner's, what is inherited of each entry, a denial of each user, and the group's.
     assert_eq!(rt; set_again(rt.alloc(), &mut refusals), Some(36));
-    println!(rt; "refusals: {}", refusals.told())?;
+    println!(rt; "refusals: {}", refusals.reported())?;
     Ok(())
 }
 
@@ -242,7 +242,7 @@ fn inherited_again(alloc: Global, refusals: &mut Refusals) -> Option<bool> {
 fn inherited_under_a_refused_growth(rt: HostRuntime) -> Result<(), Fail> {
     let mut refusals = Refusals::new();
     assert!(rt; inherited_again(rt.alloc(), &mut refusals) == Some(true));
-    println!(rt; "refusals: {}", refusals.told())?;
+    println!(rt; "refusals: {}", refusals.reported())?;
     Ok(())
 }
 
@@ -261,6 +261,6 @@ fn filled(alloc: Global, refusals: &mut Refusals) -> Option<(usize, usize)> {
 fn lists_with_room_under_a_refused_growth(rt: HostRuntime) -> Result<(), Fail> {
     let mut refusals = Refusals::new();
     assert_eq!(rt; filled(rt.alloc(), &mut refusals), Some((0, 40)));
-    println!(rt; "refusals: {}", refusals.told())?;
+    println!(rt; "refusals: {}", refusals.reported())?;
     Ok(())
 }

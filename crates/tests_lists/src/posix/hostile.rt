@@ -1,4 +1,4 @@
-//! Texts that were cut or bent: what each comes to, by scripts/read-texts.py, which shares nothing
+//! Texts that were cut or bent: what each comes to, by tests/read-texts.py, which shares nothing
 //! with the readers. Over each row stands the text, with `|` for a newline. What stands in the row
 //! under a byte is the outcome of the text cut off before that byte, if the row is for None, and
 //! else of the text with the row's byte in its place.

@@ -76,7 +76,7 @@ fn pushed_again(alloc: Global, refusals: &mut Refusals) -> Option<u32> {
 fn push_under_a_refused_growth(rt: HostRuntime) -> Result<(), Fail> {
     let mut refusals = Refusals::new();
     assert_eq!(rt; pushed_again(rt.alloc(), &mut refusals), Some(64));
-    println!(rt; "refusals: {}", refusals.told())?;
+    println!(rt; "refusals: {}", refusals.reported())?;
     Ok(())
 }
 
@@ -102,7 +102,7 @@ fn read_entries_under_a_refused_growth(rt: HostRuntime) -> Result<(), Fail> {
     let mut refusals = Refusals::new();
     let read = read_again(rt.alloc(), &mut refusals);
     assert_eq!(rt; read, Some((12, true)));
-    println!(rt; "refusals: {}", refusals.told())?;
+    println!(rt; "refusals: {}", refusals.reported())?;
     Ok(())
 }
 
@@ -149,7 +149,7 @@ fn printers_under_a_refused_growth(rt: HostRuntime) -> Result<(), Fail> {
     let printed = printed_again(rt.alloc(), &mut refusals);
     // One mark of 15 bytes makes the difference.
     assert_eq!(rt; printed, Some([Some(132), Some(147)]));
-    println!(rt; "refusals: {}", refusals.told())?;
+    println!(rt; "refusals: {}", refusals.reported())?;
     Ok(())
 }
 
@@ -174,7 +174,7 @@ fn lists_of_modes_under_a_refused_growth(rt: HostRuntime) -> Result<(), Fail> {
     let mut refusals = Refusals::new();
     let found = modes_again(rt.alloc(), 0o640, &mut refusals);
     assert_eq!(rt; found, Some((true, 0o640)));
-    println!(rt; "refusals: {}", refusals.told())?;
+    println!(rt; "refusals: {}", refusals.reported())?;
     Ok(())
 }
 
@@ -189,6 +189,6 @@ fn a_copy_under_a_refused_growth(rt: HostRuntime) -> Result<(), Fail> {
     let mut refusals = Refusals::new();
     let copied = is_copied_again(rt.alloc(), &mut refusals);
     assert!(rt; copied == Some(true));
-    println!(rt; "refusals: {}", refusals.told())?;
+    println!(rt; "refusals: {}", refusals.reported())?;
     Ok(())
 }

@@ -146,9 +146,9 @@ fn names(alloc: Global, refusals: &mut Refusals) -> Option<Directory> {
 }
 
 /// How many failures the test saw, if all went as it should.
-fn told(refusals: Refusals, right: Option<bool>) -> Option<u32> {
+fn reported(refusals: Refusals, right: Option<bool>) -> Option<u32> {
     if right == Some(true) {
-        Some(refusals.told())
+        Some(refusals.reported())
     } else {
         None
     }
@@ -165,16 +165,16 @@ fn reads_line(alloc: Global, names: &Directory) -> Option<bool> {
     }
 }
 
-fn told_by_read_line(alloc: Global) -> Option<u32> {
+fn reported_by_read_line(alloc: Global) -> Option<u32> {
     let mut refusals = Refusals::new();
     let names = names(alloc, &mut refusals)?;
     let right = refusals.again(|| reads_line(alloc, &names));
-    told(refusals, right)
+    reported(refusals, right)
 }
 
 #[test]
 fn read_line_under_a_refused_growth(rt: HostRuntime) -> Result<(), Fail> {
-    let refusals = told_by_read_line(rt.alloc()).ok_or("another end")?;
+    let refusals = reported_by_read_line(rt.alloc()).ok_or("another end")?;
     println!(rt; "refusals: {refusals}")?;
     Ok(())
 }
@@ -185,16 +185,16 @@ fn reads_text(alloc: Global, names: &Directory) -> Option<bool> {
     Some(are_of_text(requests.as_slice()))
 }
 
-fn told_by_read_text(alloc: Global) -> Option<u32> {
+fn reported_by_read_text(alloc: Global) -> Option<u32> {
     let mut refusals = Refusals::new();
     let names = names(alloc, &mut refusals)?;
     let right = refusals.again(|| reads_text(alloc, &names));
-    told(refusals, right)
+    reported(refusals, right)
 }
 
 #[test]
 fn read_text_under_a_refused_growth(rt: HostRuntime) -> Result<(), Fail> {
-    let refusals = told_by_read_text(rt.alloc()).ok_or("another end")?;
+    let refusals = reported_by_read_text(rt.alloc()).ok_or("another end")?;
     println!(rt; "refusals: {refusals}")?;
     Ok(())
 }
@@ -224,17 +224,17 @@ fn come(alloc: Global, requests: &mut Requests<'_>, refusals: &mut Refusals) -> 
     Some(requests.next(alloc).ok()?.is_none())
 }
 
-fn told_by_requests(alloc: Global) -> Option<u32> {
+fn reported_by_requests(alloc: Global) -> Option<u32> {
     let mut refusals = Refusals::new();
     let names = names(alloc, &mut refusals)?;
     let mut requests = Requests::new(TEXT, &names);
     let right = come(alloc, &mut requests, &mut refusals);
-    told(refusals, right)
+    reported(refusals, right)
 }
 
 #[test]
 fn requests_under_a_refused_growth(rt: HostRuntime) -> Result<(), Fail> {
-    let refusals = told_by_requests(rt.alloc()).ok_or("another end")?;
+    let refusals = reported_by_requests(rt.alloc()).ok_or("another end")?;
     println!(rt; "refusals: {refusals}")?;
     Ok(())
 }
@@ -264,17 +264,17 @@ fn is_rendered(
     Some(out.as_slice() == SHOWN)
 }
 
-fn told_by_render(alloc: Global) -> Option<u32> {
+fn reported_by_render(alloc: Global) -> Option<u32> {
     let mut refusals = Refusals::new();
     let names = names(alloc, &mut refusals)?;
     let answer = refusals.again(|| answer(alloc))?;
     let right = is_rendered(alloc, &names, &answer, &mut refusals);
-    told(refusals, right)
+    reported(refusals, right)
 }
 
 #[test]
 fn render_under_a_refused_growth(rt: HostRuntime) -> Result<(), Fail> {
-    let refusals = told_by_render(rt.alloc()).ok_or("another end")?;
+    let refusals = reported_by_render(rt.alloc()).ok_or("another end")?;
     println!(rt; "refusals: {refusals}")?;
     Ok(())
 }
@@ -305,17 +305,17 @@ fn is_put(alloc: Global, request: &Request, refusals: &mut Refusals) -> Option<b
     Some(out.as_slice() == COMMAND)
 }
 
-fn told_by_push_command(alloc: Global) -> Option<u32> {
+fn reported_by_push_command(alloc: Global) -> Option<u32> {
     let mut refusals = Refusals::new();
     let names = names(alloc, &mut refusals)?;
     let request = refusals.again(|| request(alloc, &names))?;
     let right = is_put(alloc, &request, &mut refusals);
-    told(refusals, right)
+    reported(refusals, right)
 }
 
 #[test]
 fn push_command_under_a_refused_growth(rt: HostRuntime) -> Result<(), Fail> {
-    let refusals = told_by_push_command(rt.alloc()).ok_or("another end")?;
+    let refusals = reported_by_push_command(rt.alloc()).ok_or("another end")?;
     println!(rt; "refusals: {refusals}")?;
     Ok(())
 }

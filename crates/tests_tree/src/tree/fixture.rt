@@ -36,7 +36,7 @@ pub fn mode(bits: u16) -> Option<Mode> {
     Mode::from_bits(bits)
 }
 
-/// What a reply tells, but for lists.
+/// What a reply reports, but for lists.
 #[derive(Clone, Copy, Debug, PartialEq, Eq)]
 pub enum Outcome {
     Done,
@@ -64,10 +64,10 @@ pub enum Command<'a> {
     Translate(&'a str),
 }
 
-/// A step of an example: a command with what it tells, or what the tree has then.
+/// A step of an example: a command with what it reports, or what the tree has then.
 #[derive(Clone, Copy)]
 pub enum Step<'a> {
-    Tells(Command<'a>, Outcome),
+    Reports(Command<'a>, Outcome),
     /// So many nodes.
     Has(usize),
     /// A node with this access list, and no default list.
@@ -129,7 +129,7 @@ impl World {
         Some(outcome_of(&reply))
     }
 
-    /// What the command tells.
+    /// What the command reports.
     pub fn command(&mut self, command: Command<'_>) -> Option<Outcome> {
         let request = request(self.alloc, command)?;
         self.outcome(&request)
@@ -138,7 +138,7 @@ impl World {
     /// Whether the step goes as it says.
     pub fn goes(&mut self, step: Step<'_>) -> Option<bool> {
         match step {
-            Step::Tells(command, told) => Some(self.command(command)? == told),
+            Step::Reports(command, reported) => Some(self.command(command)? == reported),
             Step::Has(nodes) => Some(self.tree.len() == nodes),
             Step::HasAccess(at, text) => self.has(at, Lists::Posix(text, None)),
             Step::HasAces(at, text) => self.has(at, Lists::Nfs4(text)),

@@ -61,8 +61,8 @@ fn full_tree(rt: HostRuntime) {
     let old = Command::Create(Kind::File, "/0000", ALICE, 0o644);
     let steps = [
         Step::Has(MAX_NODES),
-        Step::Tells(new, Outcome::Refused(TreeFault::Full)),
-        Step::Tells(old, Outcome::Refused(TreeFault::Exists)),
+        Step::Reports(new, Outcome::Refused(TreeFault::Full)),
+        Step::Reports(old, Outcome::Refused(TreeFault::Exists)),
     ];
     assert_eq!(rt; wrong_step(full(rt.alloc()), &steps), None);
 }
@@ -111,11 +111,11 @@ fn with_longest(alloc: Global) -> Option<World> {
 #[test]
 fn the_longest_list_stays_and_decides(rt: HostRuntime) {
     let steps = [
-        Step::Tells(
+        Step::Reports(
             Command::Chmod("/a", 0o644),
             Outcome::Refused(TreeFault::TooMany),
         ),
-        Step::Tells(Command::Check4("/a", 0, "t"), Outcome::Granted),
+        Step::Reports(Command::Check4("/a", 0, "t"), Outcome::Granted),
     ];
     assert_eq!(rt; leave_all(with_longest(rt.alloc()), &steps), Some(true));
 }

@@ -36,8 +36,8 @@ const D_NFS4: &[Command<'static>] = &[
 /// command changed a node or the number of nodes.
 fn again(world: &mut World, refusals: &mut Refusals, command: Command<'_>) -> Option<Outcome> {
     let before = refusals.again(|| world.nodes())?;
-    if let Some(told) = world.command(command) {
-        return Some(told);
+    if let Some(reported) = world.command(command) {
+        return Some(reported);
     }
     refusals.one_more();
     if !world.has_nodes(&before) {
@@ -55,7 +55,7 @@ fn goes_again(world: &mut World, refusals: &mut Refusals, step: Step<'_>) -> Opt
     world.goes(step)
 }
 
-/// Whether the command tells this, and the tree has then what the steps say.
+/// Whether the command reports this, and the tree has then what the steps say.
 fn goes_so(
     world: &mut World,
     refusals: &mut Refusals,
@@ -86,7 +86,7 @@ fn refusals_of(
     let mut refusals = Refusals::new();
     let mut world = refusals.again(|| World::after(alloc, first))?;
     if goes_so(&mut world, &mut refusals, command, wanted, then) {
-        Some(refusals.told())
+        Some(refusals.reported())
     } else {
         None
     }
@@ -106,7 +106,7 @@ fn paths_under_a_refused_growth(rt: HostRuntime) -> Result<(), Fail> {
         .again(|| Path::read(alloc, DIR.as_bytes()).ok())
         .ok_or("a path")?;
     assert_eq!(rt; refusals.again(|| is_copied(alloc, &path)), Some(true));
-    println!(rt; "refusals: {}", refusals.told())?;
+    println!(rt; "refusals: {}", refusals.reported())?;
     Ok(())
 }
 
@@ -121,7 +121,7 @@ fn new_under_a_refused_growth(rt: HostRuntime) -> Result<(), Fail> {
     let alloc = rt.alloc();
     let mut refusals = Refusals::new();
     assert_eq!(rt; refusals.again(|| root_alone(alloc)), Some(1));
-    println!(rt; "refusals: {}", refusals.told())?;
+    println!(rt; "refusals: {}", refusals.reported())?;
     Ok(())
 }
 
@@ -252,14 +252,14 @@ fn both_checked(alloc: Global) -> Option<(Outcome, Refusals)> {
     let mut refusals = Refusals::new();
     let mut world = refusals.again(|| World::after(alloc, D_NFS4))?;
     checked(alloc, &mut world, &mut refusals)?;
-    let told = checked4(alloc, &mut world, &mut refusals)?;
-    Some((told, refusals))
+    let reported = checked4(alloc, &mut world, &mut refusals)?;
+    Some((reported, refusals))
 }
 
 #[test]
 fn checks_take_no_memory(rt: HostRuntime) -> Result<(), Fail> {
-    let (told, refusals) = both_checked(rt.alloc()).ok_or("no check")?;
-    assert_eq!(rt; told, Outcome::Denied);
-    println!(rt; "refusals: {}", refusals.told())?;
+    let (reported, refusals) = both_checked(rt.alloc()).ok_or("no check")?;
+    assert_eq!(rt; reported, Outcome::Denied);
+    println!(rt; "refusals: {}", refusals.reported())?;
     Ok(())
 }

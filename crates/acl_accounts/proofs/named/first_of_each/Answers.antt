@@ -7,8 +7,8 @@ loop-member-preserved-then-ends_with_name g c =
     let name_of = g.T.Named.name_of in
     let member = c.member-item.result in
     let firsts = c.loop-member.firsts.items in
-    let told = rw (c.deref.ensures.value, c.key.ensures) at c.ends_with_name.ensures in
-    let ends : ends_with name_of (name_of member) firsts ≡ true = sym told ∙ c.if-ends_with_name.true in
+    let reported = rw (c.deref.ensures.value, c.key.ensures) at c.ends_with_name.ensures in
+    let ends : ends_with name_of (name_of member) firsts ≡ true = sym reported ∙ c.if-ends_with_name.true in
     one_again name_of c.args.members.now c.loop-member.member-index member firsts c.loop-member-test.true (sym c.member-item.is) c.loop-member.invariant ends
 
 pub loop-member-preserved : goal.loop-member-preserved
@@ -16,6 +16,6 @@ loop-member-preserved g c =
     let name_of = g.T.Named.name_of in
     let member = c.member-item.result in
     let firsts = c.loop-member.firsts.items in
-    let told = rw (c.deref.ensures.value, c.key.ensures) at c.ends_with_name.ensures in
-    let ends : ends_with name_of (name_of member) firsts ≡ false = sym told ∙ c.if-ends_with_name.false in
+    let reported = rw (c.deref.ensures.value, c.key.ensures) at c.ends_with_name.ensures in
+    let ends : ends_with name_of (name_of member) firsts ≡ false = sym reported ∙ c.if-ends_with_name.false in
     rw c.in_ok-push.ensures.items (one_more name_of c.args.members.now c.loop-member.member-index member firsts c.requires c.loop-member-test.true (sym c.member-item.is) c.loop-member.invariant ends)

@@ -5,7 +5,7 @@ use Rattle.acl_nfs4.specs.Comparison.{OfEachAsker}
 use Rattle.acl_nfs4.specs.Who.{who_of}
 use Rattle.acl_nfs4.proofs.AllowedBits.{none_exactly}
 use Rattle.acl_bridge.specs.Comparison.{GrantAlike, Granter, grants_at}
-use Rattle.acl_bridge.proofs.ComparisonPairs.{pairs_suffice_posix, unlike_tells}
+use Rattle.acl_bridge.proofs.ComparisonPairs.{pairs_suffice_posix, unlike_reports}
 use Rattle.acl_bridge.proofs.requests.request_difference.Goals as goal
 
 pub returns-clause-none : goal.returns-clause-none
@@ -23,4 +23,4 @@ returns-clause-none c =
     (subst (λ (ys : List EntryValue). OfEachAsker (λ (entry : EntryValue). who_of entry.tag)
     c.entries.result.now ys owners other_owners (GrantAlike before after request))
     c.entries-2.ensures.value asked)))
-    (unlike_tells before after request)
+    (unlike_reports before after request)

@@ -2,7 +2,7 @@ use Rattle.std.proofs.Common.{rules, ◌≡◌, ◌≤◌, ◌+◌, ◌++◌, �
 use Rattle.clap.specs.Words.{Text}
 use Rattle.acl_cli.specs.Failures.{IsUnexplained}
 use Rattle.acl_cli.specs.SessionFiles.{HaveBytes, input_count}
-use Rattle.acl_cli.proofs.SessionFileLemmas.{HaveBytes-more, input_count-next, input_count-take, none_so_far, refused_among, shown, told_before}
+use Rattle.acl_cli.proofs.SessionFileLemmas.{HaveBytes-more, input_count-next, input_count-take, none_so_far, refused_among, shown, reported_before}
 use Rattle.std.proofs.lemmas.List.Elements.{All-push}
 use Rattle.std.proofs.lemmas.List.{map_more}
 use Rattle.acl_cli.proofs.session_files.read_sessions.Goals as goal
@@ -33,11 +33,11 @@ loop-name-preserved g c =
       untouched = λ none.
           let (none_before, other) = none_so_far so_far name (sym (ap input_count next) ∙ none) in
           c.read_session.ensures.untouched other ∙ was.untouched none_before;
-      told =
+      reported =
           subst (λ (given : List Text). HaveBytes bytes_of first given after) (sym next)
           (subst (λ (texts : List (Vec ℕ Global)). HaveBytes bytes_of first (so_far ++ name ∷ []) texts) (sym c.push_reserved.ensures.items)
-          (HaveBytes-more bytes_of first so_far before name text was.told
-          (told_before bytes_of (g.I.Read.remaining c.loop-name.input) first name text.items
+          (HaveBytes-more bytes_of first so_far before name text was.reported
+          (reported_before bytes_of (g.I.Read.remaining c.loop-name.input) first name text.items
           (λ is. ap g.I.Read.remaining (was.untouched (omega (arith, few, input_count-next so_far name is))))
           c.in_ok-text.ensures.bytes)));
     }

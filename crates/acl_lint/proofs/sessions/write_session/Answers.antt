@@ -9,7 +9,7 @@ use Rattle.acl_cli.proofs.OutputLemmas.{Appends-nothing}
 use Rattle.acl_cli.proofs.OutputLemmas.{front_among, front_so_far}
 use Rattle.acl_lint.specs.LintText.{session_text}
 use Rattle.acl_lint.proofs.AnswerLemmas.{on_err}
-use Rattle.acl_lint.proofs.SessionLemmas.{session-next, session-sent, told_from, told_of_parts}
+use Rattle.acl_lint.proofs.SessionLemmas.{session-next, session-sent, reported_from, reported_of_parts}
 use Rattle.acl_lint.proofs.sessions.write_session.Goals as goal
 
 pub loop-line-init : goal.loop-line-init
@@ -26,7 +26,7 @@ loop-line-init g c =
     record {
       sent = [];
       written = Appends-nothing out out kept;
-      left = ap (λ bytes. bytes ++ told_from known name 0 c.new-lines.result) empty ∙ ap (told_from known name 0) c.new-lines.ensures ∙ told_of_parts known name text;
+      left = ap (λ bytes. bytes ++ reported_from known name 0 c.new-lines.result) empty ∙ ap (reported_from known name 0) c.new-lines.ensures ∙ reported_of_parts known name text;
       within = omega (arith, few, many, as_many);
     }
 

@@ -4,7 +4,7 @@ use Rattle.acl_lint.specs.LintText.{sessions_text}
 use Rattle.acl_lint.proofs.SessionLemmas.{shown}
 use Rattle.acl_lint.proofs.sessions.write_sessions.Given as goal
 
--- what was written so far, and what is told of the sessions left, are what is told of all
+-- what was written so far, and what is reported of the sessions left, are what is reported for all
 abbrev pub invariant-loop-session : goal.invariant-loop-session
 invariant-loop-session g l = record {
   so_far : List ℕ;

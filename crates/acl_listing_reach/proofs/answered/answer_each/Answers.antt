@@ -1,5 +1,5 @@
 use Rattle.std.proofs.Common.{rules, ◌≡◌, ◌∙◌, ◌++◌, ◌∷◌, [], ℕ, List, true, ap, refl, subst, sym}
-use Rattle.acl_cli.proofs.TellingLemmas.{if_true}
+use Rattle.acl_cli.proofs.ReportingLemmas.{if_true}
 use Rattle.acl_listings.specs.Cursor.{HandsOut}
 use Rattle.acl_listings.specs.Listing.{Block}
 use Rattle.acl_people.specs.Host.{names_of_host}
@@ -12,15 +12,15 @@ use Rattle.acl_listing_reach.proofs.answered.answer_each.Goals as goal
 pub loop-init : goal.loop-init
 loop-init g c = record {
   same = refl;
-  answered = answered_none (g.T.BlockTeller.Stands c.args.teller) c.requires (g.T.BlockTeller.part c.args.teller) c.args.name.now (names_of_host c.args.host.now) c.args.blocks.now.coming
+  answered = answered_none (g.T.BlockReporter.Stands c.args.reporter) c.requires (g.T.BlockReporter.part c.args.reporter) c.args.name.now (names_of_host c.args.host.now) c.args.blocks.now.coming
       c.new-answered.result.known c.new-answered.result.said.items c.new-answered.result.tally c.new-answered.ensures.known c.new-answered.ensures.said c.new-answered.ensures.tally;
 }
 
 pub loop-preserved : goal.loop-preserved
 loop-preserved g c =
-    let part = g.T.BlockTeller.part c.args.teller in
-    let Old = g.T.BlockTeller.Stands c.loop.teller in
-    let New = g.T.BlockTeller.Stands c.add.new.teller in
+    let part = g.T.BlockReporter.part c.args.reporter in
+    let Old = g.T.BlockReporter.Stands c.loop.reporter in
+    let New = g.T.BlockReporter.Stands c.add.new.reporter in
     let name = c.args.name.now in
     let names = names_of_host c.args.host.now in
     let was = c.loop.invariant in

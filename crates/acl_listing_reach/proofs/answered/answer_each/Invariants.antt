@@ -6,6 +6,6 @@ use Rattle.acl_listing_reach.proofs.answered.answer_each.Given as goal
 -- the blocks so far are answered
 abbrev pub invariant-loop : goal.invariant-loop
 invariant-loop g l = record {
-  same : g.T.BlockTeller.part l.teller ≡ g.T.BlockTeller.part l.fn.teller;
-  answered : IsAnsweredTo (g.T.BlockTeller.Stands l.teller) (g.T.BlockTeller.part l.fn.teller) l.name (names_of_host l.host) l.fn.blocks.coming l.blocks.coming l.answered.known l.answered.said.items l.answered.tally;
+  same : g.T.BlockReporter.part l.reporter ≡ g.T.BlockReporter.part l.fn.reporter;
+  answered : IsAnsweredTo (g.T.BlockReporter.Stands l.reporter) (g.T.BlockReporter.part l.fn.reporter) l.name (names_of_host l.host) l.fn.blocks.coming l.blocks.coming l.answered.known l.answered.said.items l.answered.tally;
 }

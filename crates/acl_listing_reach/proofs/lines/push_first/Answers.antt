@@ -1,5 +1,5 @@
 use Rattle.std.proofs.Common.{◌≡◌, ◌∙◌, ◌≤◌, ◌<◌, ◌++◌, [], ap, append-nil, arith, false, length, subst, sym, ℕ, List}
-use Rattle.acl_cli.specs.Telling.{is_empty}
+use Rattle.acl_cli.specs.Reporting.{is_empty}
 use Rattle.acl_people.specs.Asked.{names_of_people, persons_in}
 use Rattle.acl_listing_reach.specs.LineSteps.{line_there}
 use Rattle.acl_listing_reach.proofs.LineLemmas.{first_end, first_found, first_more, no_line, some_line}

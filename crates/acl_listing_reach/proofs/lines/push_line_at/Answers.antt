@@ -22,6 +22,6 @@ returns c =
     let differ : (m == n) ≡ false = other_number m n (λ same. c.if-before-after.false (before ∙ same ∙ sym after)) in
     let lost : mask_bits c.lacking-lost.result ≡ mask_for (without m n) = c.lacking-lost.ensures ∙ ap₂ (λ (one other : ℕ). mask_for (without one other)) before after in
     let gained : mask_bits c.lacking-gained.result ≡ mask_for (without n m) = c.lacking-gained.ensures ∙ ap₂ (λ (one other : ℕ). mask_for (without one other)) after before in
-    let told : ℕ → ℕ → List ℕ = λ lost gained. c.args.out.now.items ++ line_at (λ (person : Person). person_text person lost gained path) found in
+    let reported : ℕ → ℕ → List ℕ = λ lost gained. c.args.out.now.items ++ line_at (λ (person : Person). person_text person lost gained path) found in
     on_ok_weaker c.push_person_at.result
-    (λ is. is ∙ ap₂ told lost gained ∙ ap (λ line. c.args.out.now.items ++ line) (line_other c.args.old.now c.args.new.now path c.args.place found differ)) c.push_person_at.ensures
+    (λ is. is ∙ ap₂ reported lost gained ∙ ap (λ line. c.args.out.now.items ++ line) (line_other c.args.old.now c.args.new.now path c.args.place found differ)) c.push_person_at.ensures

@@ -12,9 +12,9 @@ returns-clause-report g c =
     let handling = g.P.Replies.handling c.args.replies.now in
     let few = all_rest rest c.args.most c.args.sessions.items c.requires.few in
     if_ok c.report_all.result (IsReported c.take_rounds.new.run) (IsReport g.S.Service.next g.S.Service.reply (keeping_all handling) c.args.service None (map rest c.args.sessions.items))
-    (λ report told. is_report rest g.S.Service.next g.S.Service.reply handling c.args.service
+    (λ report reported. is_report rest g.S.Service.next g.S.Service.reply handling c.args.service
     c.args.sessions.items c.args.most c.in_ok-begun.begun c.take_rounds.new.run report
-    c.in_ok-begun.ensures c.in_ok-take_rounds.ensures told few)
+    c.in_ok-begun.ensures c.in_ok-take_rounds.ensures reported few)
     c.report_all.ensures
 
 pub returns-clause-journal : goal.returns-clause-journal
@@ -23,7 +23,7 @@ returns-clause-journal g c =
     let handling = g.P.Replies.handling c.args.replies.now in
     let few = all_rest rest c.args.most c.args.sessions.items c.requires.few in
     if_ok c.report_all.result (IsReported c.take_rounds.new.run) (λ report. AreRounds (map rest c.args.sessions.items) report.journal.items)
-    (λ report told. are_rounds rest g.S.Service.next g.S.Service.reply handling c.args.service
+    (λ report reported. are_rounds rest g.S.Service.next g.S.Service.reply handling c.args.service
     c.args.sessions.items c.args.most c.in_ok-begun.begun c.take_rounds.new.run report
-    c.in_ok-begun.ensures c.in_ok-take_rounds.ensures told few)
+    c.in_ok-begun.ensures c.in_ok-take_rounds.ensures reported few)
     c.report_all.ensures

@@ -1,14 +1,6 @@
-use Rattle.std.proofs.Common.{refl}
+use Rattle.acl_wire.proofs.CompareLemmas.{compared-values}
 use Rattle.acl_wire.proofs.compare.difference.Goals as goal
 
-pub returns-in-Some : goal.returns-in-Some
-returns-in-Some c =
-    let some = c.in-Some.ensures.some in
-    record {
-      lost = λ bit. rw (c.bits.ensures, c.raw_asker.ensures) (some.lost bit);
-      gained = λ bit. rw (c.bits-in-Some.ensures, c.raw_asker.ensures) (some.gained bit);
-      some = rw (c.bits.ensures, c.bits-in-Some.ensures) some.some;
-    }
-
-pub returns-in-None : goal.returns-in-None
-returns-in-None c = c.in-None.ensures.none.0 refl
+pub returns : goal.returns
+returns c = λ aces other_aces one two.
+    compared-values c.args.first.now c.args.second.now aces other_aces one two c.args.owners.now c.args.others.now c.args.bits c.in_ok-stranger.stranger c.difference_with.result c.difference_with.ensures c.in_ok-stranger.ensures.some

@@ -1,13 +1,9 @@
-use Rattle.std.proofs.Common.{◌∙◌, sym}
-use Rattle.acl_wire.specs.declared.fault.Nfs4Fault.{Nfs4Fault}
-use Rattle.acl_wire.proofs.ModeLemmas.{short-made}
-use Rattle.acl_wire.proofs.StepsBack.{ok_same}
+use Rattle.acl_wire.proofs.ModeLemmas.{short-left-as}
+use Rattle.acl_wire.specs.declared.mode_change.ModeRule.TheVariants.{Profile, Least}
 use Rattle.acl_wire.proofs.mode_change.changed.Goals as goal
 
-pub with_around-requires-clause-base : goal.with_around-requires-clause-base
-with_around-requires-clause-base c =
-    ok_same {F = Nfs4Fault} c.in_ok-base.base c.in_ok-acl.acl (sym c.in_ok-base.ensures.value ∙ c.in_ok-acl.ensures.value) ∙ sym c.aces.ensures.value
+pub returns-in-Profile-clause-short : goal.returns-in-Profile-clause-short
+returns-in-Profile-clause-short c = λ few short. c.with_denials.ensures.short few (short-left-as c.args.rule Profile c.in-Profile.is c.args.mode c.args.raws.now few short)
 
-pub returns-clause-short : goal.returns-clause-short
-returns-clause-short c = λ few short.
-    c.with_around.ensures.short (rw c.aces.ensures.value (short-made c.args.rule c.args.mode c.args.raws.now c.in_ok-acl.acl c.in_ok-acl.ensures.value few short))
+pub returns-in-Least-clause-short : goal.returns-in-Least-clause-short
+returns-in-Least-clause-short c = λ few short. c.with_denials-in-Least.ensures.short few (short-left-as c.args.rule Least c.in-Least.is c.args.mode c.args.raws.now few short)

@@ -3,7 +3,7 @@ use Rattle.std.specs.Io.KnownBytes.{Appends}
 use Rattle.acl_cli.specs.Failures.{failed_write}
 use Rattle.acl_cli.specs.Output.{AppendsFront}
 use Rattle.acl_cli.specs.declared.command.Ending.TheVariants.{Answered}
-use Rattle.acl_cli.proofs.TellingLemmas.{Tells-nothing}
+use Rattle.acl_cli.proofs.ReportingLemmas.{Reports-nothing}
 use Rattle.aclctl.specs.Program.{plain}
 use Rattle.aclctl.proofs.help.print.Goals as goal
 
@@ -14,14 +14,14 @@ returns-in-Ok g c =
       result = Ok Answered;
       between = c.args.err.now;
       comes = record {
-        answered = record { answer = plain c.args.text.now; is = refl; ends = refl; text = went; beside = Tells-nothing c.args.err.now };
+        answered = record { answer = plain c.args.text.now; is = refl; ends = refl; text = went; beside = Reports-nothing c.args.err.now };
         fails = tt;
         silent = tt;
         cut = tt;
         untouched = λ none. refl;
         unread = tt;
       };
-      told = (refl, refl);
+      reported = (refl, refl);
     }
 
 pub returns-in-Err : goal.returns-in-Err
@@ -34,9 +34,9 @@ returns-in-Err g c =
         answered = tt;
         fails = refl;
         silent = λ few. absurd (omega (arith, few));
-        cut = inr (record { answer = plain c.args.text.now; is = refl; text = front; said = 0; beside = Tells-nothing c.args.err.now });
+        cut = inr (record { answer = plain c.args.text.now; is = refl; text = front; said = 0; beside = Reports-nothing c.args.err.now });
         untouched = λ none. refl;
         unread = λ two. refl;
       };
-      told = (c.status.ensures, c.tell.ensures);
+      reported = (c.status.ensures, c.report.ensures);
     }

@@ -33,6 +33,6 @@ returns-in-Err-clause-read g c none =
     let files = g.F.OpenFiles.bytes_of c.args.files.now in
     let out = g.W.Write.contents c.args.out.now in
     let reader = c.command_words.new.reader in
-    let Ended = λ (bytes : List ℕ). (between : g.row.I.Denot) × EndsFrom c.status.result out out c.args.err.now c.tell.new.err between reader files bytes in
+    let Ended = λ (bytes : List ℕ). (between : g.row.I.Denot) × EndsFrom c.status.result out out c.args.err.now c.report.new.err between reader files bytes in
     IfSome_then _ {Q = Ended} c.in-Err.ensures.refused (λ bytes is.
-    (reader, inr (c.in-Err.failure, is, record { is_status = c.status.ensures; silent = Keeps-refl _; told = c.tell.ensures })))
+    (reader, inr (c.in-Err.failure, is, record { is_status = c.status.ensures; silent = Keeps-refl _; reported = c.report.ensures })))

@@ -1,7 +1,7 @@
 use Rattle.std.proofs.Common.{◌++◌, [], ◌∷◌, ℕ, List, codes, subst}
 use Rattle.acl_names.specs.Bytes.{newline}
-use Rattle.acl_cli.specs.ErrorOutput.{Tells}
-use Rattle.acl_cli.proofs.ErrorLemmas.{Tells-both}
+use Rattle.acl_cli.specs.ErrorOutput.{Reports}
+use Rattle.acl_cli.proofs.ErrorLemmas.{Reports-both}
 use Rattle.acl_cli.proofs.error_output.ErrorOutput.write_named.Goals as goal
 
 pub returns : goal.returns
@@ -9,9 +9,9 @@ returns g c =
     let words = c.args.words.now in
     let name = c.args.name.now in
     let more = c.args.reason.now in
-    let one = subst (λ (text : List ℕ). Tells text c.write_text.new.self c.write_text-2.new.self) c.as_bytes.ensures.value c.write_text-2.ensures in
-    let two = subst (λ (text : List ℕ). Tells text c.write_text-2.new.self c.write_text-3.new.self) c.as_bytes-2.ensures.value c.write_text-3.ensures in
-    let three = subst (λ (text : List ℕ). Tells text c.write_text-3.new.self c.write_text-4.new.self) c.as_bytes-3.ensures.value c.write_text-4.ensures in
-    let all = Tells-both (words ++ name) more _ _ _ (Tells-both words name _ _ _ one two) three in
-    let line = Tells-both (words ++ name ++ more) (newline ∷ []) _ _ _ all c.write_text-5.ensures in
-    Tells-both (codes "aclctl: ") (words ++ name ++ more ++ newline ∷ []) _ _ _ c.write_text.ensures line
+    let one = subst (λ (text : List ℕ). Reports text c.write_text.new.self c.write_text-2.new.self) c.as_bytes.ensures.value c.write_text-2.ensures in
+    let two = subst (λ (text : List ℕ). Reports text c.write_text-2.new.self c.write_text-3.new.self) c.as_bytes-2.ensures.value c.write_text-3.ensures in
+    let three = subst (λ (text : List ℕ). Reports text c.write_text-3.new.self c.write_text-4.new.self) c.as_bytes-3.ensures.value c.write_text-4.ensures in
+    let all = Reports-both (words ++ name) more _ _ _ (Reports-both words name _ _ _ one two) three in
+    let line = Reports-both (words ++ name ++ more) (newline ∷ []) _ _ _ all c.write_text-5.ensures in
+    Reports-both (codes "aclctl: ") (words ++ name ++ more ++ newline ∷ []) _ _ _ c.write_text.ensures line

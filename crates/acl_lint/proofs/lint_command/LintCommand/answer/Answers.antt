@@ -15,10 +15,10 @@ use Rattle.acl_lint.specs.LintAnswer.{IsLint, lint_meaning}
 use Rattle.acl_lint.proofs.AnswerLemmas.{lint_answered, lint_failed}
 use Rattle.acl_lint.proofs.lint_command.LintCommand.answer.Goals as goal
 
--- what is told of these names is told of those that they are
-told_of : (name other : Text) (names others : List Text) (setup : List ℕ) (texts : List (Vec ℕ Global)) → name ≡ other → names ≡ others → (WentOut : List ℕ → Type 0)
+-- what is reported of these names is reported for those that they are
+reported_of : (name other : Text) (names others : List Text) (setup : List ℕ) (texts : List (Vec ℕ Global)) → name ≡ other → names ≡ others → (WentOut : List ℕ → Type 0)
     → (text : List ℕ) × IsLint name setup names texts text × WentOut text → (text : List ℕ) × IsLint other setup others texts text × WentOut text
-told_of name other names others setup texts same are WentOut (text, is, went) =
+reported_of name other names others setup texts same are WentOut (text, is, went) =
     (text, subst (λ (these : List Text). IsLint other setup these texts text) are (subst (λ (one : Text). IsLint one setup names texts text) same is), went)
 
 pub returns-in_err-texts : goal.returns-in_err-texts
@@ -61,7 +61,7 @@ returns-in_err-write_answer g c =
     (subst (λ (names : List Text). HaveBytes bytes_of start names texts) names_are read.sessions)
     out out' c.args._err.now c.args.input.now c.read_texts.new.input (λ none. c.read_texts.ensures.untouched (ap input_count names_are ∙ none)) failure c.in_err-write_answer.ensures.lack
     (⊎_map (λ (kept : Keeps out out'). kept)
-    (told_of c.setup_field-setup.result.now (setup_in rows) (map (λ name. name.now) c.session_names-names.result.now) (sessions_in rows) setup texts c.setup_field-setup.ensures names_are (AppendsFront out out'))
+    (reported_of c.setup_field-setup.result.now (setup_in rows) (map (λ name. name.now) c.session_names-names.result.now) (sessions_in rows) setup texts c.setup_field-setup.ensures names_are (AppendsFront out out'))
     c.in_err-write_answer.ensures.cut) in
     subst (λ (result : Result Ending Failure). Comes (lint_meaning bytes_of start rows) result out out' c.args._err.now c.args._err.now c.args.input.now c.read_texts.new.input) (sym is) comes
 
@@ -80,5 +80,5 @@ returns g c =
     (subst (λ (name : Text). HasBytes (bytes_of name) setup) c.setup_field-setup.ensures read.setup)
     (subst (λ (names : List Text). HaveBytes bytes_of start names texts) names_are read.sessions)
     out out' c.args._err.now c.args.input.now c.read_texts.new.input (λ none. c.read_texts.ensures.untouched (ap input_count names_are ∙ none))
-    (told_of c.setup_field-setup.result.now (setup_in rows) (map (λ name. name.now) c.session_names-names.result.now) (sessions_in rows) setup texts c.setup_field-setup.ensures names_are (Appends out out')
+    (reported_of c.setup_field-setup.result.now (setup_in rows) (map (λ name. name.now) c.session_names-names.result.now) (sessions_in rows) setup texts c.setup_field-setup.ensures names_are (Appends out out')
     c.in_ok-write_answer.ensures.written)

@@ -10,7 +10,7 @@ use Rattle.acl_listing_changes.proofs.between.opening.open_block.Goals as goal
 
 pub returns-in-Some-with-clause-more : goal.returns-in-Some-with-clause-more
 returns-in-Some-with-clause-more g c = λ within was.
-    let wording = g.C.ChangeTeller.wording c.args.teller.now in
+    let wording = g.C.ChangeReporter.wording c.args.reporter.now in
     let kept = c.args.kept.now in
     let block : Block = block_of c.in-Some.block.now in
     let some : c.block.result ≡ Some c.in-Some.block = search rules in
@@ -30,7 +30,7 @@ returns-in-Some-with-clause-more g c = λ within was.
 
 pub returns-in-Some-with-clause-read : goal.returns-in-Some-with-clause-read
 returns-in-Some-with-clause-read g c = λ within count was.
-    let wording = g.C.ChangeTeller.wording c.args.teller.now in
+    let wording = g.C.ChangeReporter.wording c.args.reporter.now in
     let kept = c.args.kept.now in
     let reads = c.args.reads.now.items in
     let block : Block = block_of c.in-Some.block.now in

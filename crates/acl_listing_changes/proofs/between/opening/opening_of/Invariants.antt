@@ -5,7 +5,7 @@ use Rattle.acl_listing_changes.proofs.between.opening.opening_of.Given as goal
 -- so much was said of the first blocks, and counted
 abbrev pub invariant-loop-place : goal.invariant-loop-place
 invariant-loop-place g l = record {
-  opened : IsOpenedTo (g.C.ChangeTeller.wording l.teller) l.name l.kept l.place l.said.items l.tally;
+  opened : IsOpenedTo (g.C.ChangeReporter.wording l.reporter) l.name l.kept l.place l.said.items l.tally;
   count : length l.reads.items ≡ l.place;
-  read : AreRead (g.C.ChangeTeller.wording l.teller) l.kept l.reads.items;
+  read : AreRead (g.C.ChangeReporter.wording l.reporter) l.kept l.reads.items;
 }

@@ -9,9 +9,9 @@ loop-place-init c = each_none (view_acl c.args.before.now) (view_acl c.args.afte
 
 pub loop-place-preserved : goal.loop-place-preserved
 loop-place-preserved c =
-    let told = c.in_ok-push_changed_at.ensures in
+    let reported = c.in_ok-push_changed_at.ensures in
     each_more (view_acl c.args.before.now) (view_acl c.args.after.now) c.args.path.now (persons_in c.args.people.now) c.loop-place.place c.args.out.now.items c.loop-place.out.items
-    c.push_changed_at.new.out.items c.loop-place.invariant c.in_ok-push_changed_at.field-0 told.text told.is told.out_is
+    c.push_changed_at.new.out.items c.loop-place.invariant c.in_ok-push_changed_at.field-0 reported.text reported.is reported.out_is
 
 pub returns : goal.returns
 returns c =

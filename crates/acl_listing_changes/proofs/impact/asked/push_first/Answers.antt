@@ -2,8 +2,8 @@ use Rattle.std.proofs.Common.{rules, ◌≡◌, ◌≤◌, Bool, true, false, ar
 use Rattle.std.specs.Prelude.{slice_get}
 use Rattle.acl_bridge.specs.Files.{view_acl}
 use Rattle.acl_people.specs.Asked.{names_of_people, persons_in}
-use Rattle.acl_listing_changes.specs.Impacting.{Tells}
-use Rattle.acl_listing_changes.specs.ImpactSteps.{TellsAt}
+use Rattle.acl_listing_changes.specs.Impacting.{Reports}
+use Rattle.acl_listing_changes.specs.ImpactSteps.{ReportsAt}
 use Rattle.acl_listing_changes.proofs.ImpactLemmas.{first_all, first_found, first_more, first_none}
 use Rattle.acl_listing_changes.proofs.impact.asked.push_first.Goals as goal
 
@@ -14,19 +14,19 @@ pub returns-then-branch : goal.returns-then-branch
 returns-then-branch c =
     let persons = persons_in c.args.people.now in
     let some : c.in_ok-push_changed_at.field-0 ≡ true = search rules in
-    let told = subst (λ (some : Bool). Tells (TellsAt some (view_acl c.args.before.now) (view_acl c.args.after.now) c.args.path.now (slice_get persons c.loop-place.place)) c.loop-place.out.items
+    let reported = subst (λ (some : Bool). Reports (ReportsAt some (view_acl c.args.before.now) (view_acl c.args.after.now) c.args.path.now (slice_get persons c.loop-place.place)) c.loop-place.out.items
     c.push_changed_at.new.out.items) some c.in_ok-push_changed_at.ensures in
     first_found (view_acl c.args.before.now) (view_acl c.args.after.now) c.args.path.now persons c.loop-place.place c.args.out.now.items c.loop-place.out.items c.push_changed_at.new.out.items
-    c.loop-place.invariant told.text told.is told.out_is
+    c.loop-place.invariant reported.text reported.is reported.out_is
 
 pub loop-place-preserved : goal.loop-place-preserved
 loop-place-preserved c =
     let persons = persons_in c.args.people.now in
     let none : c.in_ok-push_changed_at.field-0 ≡ false = search rules in
-    let told = subst (λ (some : Bool). Tells (TellsAt some (view_acl c.args.before.now) (view_acl c.args.after.now) c.args.path.now (slice_get persons c.loop-place.place)) c.loop-place.out.items
+    let reported = subst (λ (some : Bool). Reports (ReportsAt some (view_acl c.args.before.now) (view_acl c.args.after.now) c.args.path.now (slice_get persons c.loop-place.place)) c.loop-place.out.items
     c.push_changed_at.new.out.items) none c.in_ok-push_changed_at.ensures in
     first_more (view_acl c.args.before.now) (view_acl c.args.after.now) c.args.path.now persons c.loop-place.place c.args.out.now.items c.loop-place.out.items c.push_changed_at.new.out.items
-    c.loop-place.invariant told.text told.is told.out_is
+    c.loop-place.invariant reported.text reported.is reported.out_is
 
 pub returns : goal.returns
 returns c =

@@ -28,18 +28,18 @@ returns g c =
     let modes = c.in_ok-modes.modes in
     let name_is = c.listing_field.ensures in
     let asked : NextAsking = asking_by rows host maker modes in
-    let told : NextAsking = record {
+    let reported : NextAsking = record {
       names = names_of_host host;
       creation = record { owner = maker.owner; group = maker.group; kind = c.kind_field.result; mode = modes.mode; umask = modes.umask };
       folders_alone = c.flag_field.result;
     } in
-    let same : told ≡ asked = ap₂ (λ kind folders_alone. record {
+    let same : reported ≡ asked = ap₂ (λ kind folders_alone. record {
       names = names_of_host host;
       creation = record { owner = maker.owner; group = maker.group; kind = kind; mode = modes.mode; umask = modes.umask };
       folders_alone = folders_alone;
     }) c.kind_field.ensures c.flag_field.ensures in
-    let part = listing_meaning files input c.listing_field.result.now (names_of_host host) (next_part told) in
-    Comes-as part (next_meaning files input rows) c.tell_named.result _ _ _ _ _ _
+    let part = listing_meaning files input c.listing_field.result.now (names_of_host host) (next_part reported) in
+    Comes-as part (next_meaning files input rows) c.report_named.result _ _ _ _ _ _
     (λ answer is. record {
       host = host;
       host_is = c.in_ok-host.ensures.opened;
@@ -62,4 +62,4 @@ returns g c =
     })
     (λ failure fails. inr (rw c.in_ok-modes.ensures.read refl, inr (inr (subst (λ (name : List ℕ). FailsForListing name failure) name_is fails))))
     (λ none. ap inputs_of name_is ∙ none)
-    c.tell_named.ensures
+    c.report_named.ensures

@@ -1,7 +1,7 @@
 use Rattle.std.proofs.Common.{rules, ◌≡◌, ◌∙◌, ◌<◌, ◌≤◌, ◌++◌, List, ℕ, ap, arith, get_or, length, map}
 use Rattle.std.specs.List.{enumerate_from, flat_map}
 use Rattle.std.proofs.lemmas.List.{length-map, take_all}
-use Rattle.acl_access.proofs.ReachLemmas.{next_told}
+use Rattle.acl_access.proofs.ReachLemmas.{next_reported}
 use Rattle.acl_posix.specs.Perms.{bits_of}
 use Rattle.acl_listing_queries.specs.WhoSteps.{number_there}
 use Rattle.acl_listing_queries.proofs.LinesLemmas.{name_at}
@@ -16,7 +16,7 @@ loop-place-preserved c =
     let here : get_or c.args.names.now at name ≡ name = search rules in
     let f = λ (here : ℕ × List ℕ). number_there (map bits_of c.args.letters.now) c.args.reach.now here.0 in
     let more : c.push_number_at.new.out.items ≡ c.loop-place.out.items ++ f (at, name.items) = search rules in
-    next_told names at name.items (omega (arith, within, length-map c.args.names.now (λ name. name.items))) (name_at c.args.names.now at name here) f c.args.out.now.items c.loop-place.out.items _ c.loop-place.invariant more
+    next_reported names at name.items (omega (arith, within, length-map c.args.names.now (λ name. name.items))) (name_at c.args.names.now at name here) f c.args.out.now.items c.loop-place.out.items _ c.loop-place.invariant more
 
 pub returns : goal.returns
 returns c =

@@ -16,7 +16,7 @@ returns-clause-answered g c = λ earlier items stands listed was.
     let names = names_of_host c.args.host.now in
     let text = c.args.text.now in
     let block : Block = record { line = c.args.line; text = text } in
-    let part : Part = g.T.BlockTeller.part c.args.teller.now earlier text in
+    let part : Part = g.T.BlockReporter.part c.args.reporter.now earlier text in
     let known : List At = c.args.self.now.known in
     let own = c.in_ok-own.own in
     let letters = c.letters_of.new.letters.items in

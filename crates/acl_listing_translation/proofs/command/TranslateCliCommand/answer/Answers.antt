@@ -17,12 +17,12 @@ returns g c =
     let host = c.in_ok-host.host in
     let form = c.in_ok-form.form in
     let name_is = c.listing_field.ensures in
-    let told : Translating = record { names = names_of_host host; form = form; attributes = c.flag_field.result; pairs = c.flag_field-2.result } in
+    let reported : Translating = record { names = names_of_host host; form = form; attributes = c.flag_field.result; pairs = c.flag_field-2.result } in
     let asked : Translating = record { names = names_of_host host; form = form; attributes = flag_in (codes "attributes") rows; pairs = flag_in (codes "print0") rows } in
-    let same : told ≡ asked =
+    let same : reported ≡ asked =
     ap₂ (λ attributes pairs. record { names = names_of_host host; form = form; attributes = attributes; pairs = pairs }) c.flag_field.ensures c.flag_field-2.ensures in
-    let part = listing_meaning files input c.listing_field.result.now (names_of_host host) (translate_part told) in
-    Comes-as part (translate_meaning files input rows) c.tell_named.result _ _ _ _ _ _
+    let part = listing_meaning files input c.listing_field.result.now (names_of_host host) (translate_part reported) in
+    Comes-as part (translate_meaning files input rows) c.report_named.result _ _ _ _ _ _
     (λ answer is. record {
       host = host;
       host_is = c.in_ok-host.ensures.opened;
@@ -41,4 +41,4 @@ returns g c =
     })
     (λ failure fails. inr (rw c.in_ok-form.ensures.read refl, inr (subst (λ (name : List ℕ). FailsForListing name failure) name_is fails)))
     (λ none. ap inputs_of name_is ∙ none)
-    c.tell_named.ensures
+    c.report_named.ensures

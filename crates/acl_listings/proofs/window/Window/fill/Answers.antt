@@ -3,7 +3,7 @@ use Rattle.std.specs.List.{slice_range}
 use Rattle.std.specs.Io.KnownBytes.{Keeps, prepend_known}
 use Rattle.std.specs.Vec.{with_items}
 use Rattle.std.proofs.lemmas.List.{with_items_is}
-use Rattle.acl_listings.proofs.WindowLemmas.{grown, moved, told_more}
+use Rattle.acl_listings.proofs.WindowLemmas.{grown, moved, reported_more}
 use Rattle.acl_listings.proofs.window.Window.fill.Goals as goal
 
 pub returns-clause-bytes : goal.returns-clause-bytes
@@ -21,7 +21,7 @@ returns-clause-bytes g c =
     let now : slice_range (with_items held buffer).items 0 (len + count) ≡ c.args.self.now ++ take count (drop len buffer) =
     ap (λ bytes. slice_range bytes 0 (len + count)) items ∙ grown buffer c.args.self.now len count shown in
     subst (λ bytes. Keeps (prepend_known c.args.self.now (g.R.Read.remaining c.args.reader.now)) (prepend_known bytes (g.R.Read.remaining c.read_behind.new.reader)))
-    (sym now) (told_more _ _ c.args.self.now (take count (drop len buffer)) c.in_ok-count.ensures.bytes)
+    (sym now) (reported_more _ _ c.args.self.now (take count (drop len buffer)) c.in_ok-count.ensures.bytes)
 
 pub returns-clause-more : goal.returns-clause-more
 returns-clause-more g c =

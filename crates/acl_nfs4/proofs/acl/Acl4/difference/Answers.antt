@@ -2,7 +2,7 @@ use Rattle.std.proofs.Common.{◌≡◌, ◌↔◌, subst, List, None, ℕ}
 use Rattle.acl_nfs4.specs.Ace.{Nfsace4}
 use Rattle.acl_nfs4.specs.Comparison.{AlikeFor, DecideAlike, IsDifference, OfEachAsker, decided_at}
 use Rattle.acl_nfs4.specs.Mask.{mask_bits}
-use Rattle.acl_nfs4.proofs.AllowedBits.{none_exactly, difference_tells}
+use Rattle.acl_nfs4.proofs.AllowedBits.{none_exactly, difference_reports}
 use Rattle.acl_nfs4.proofs.ComparisonLemmas.{pairs_suffice}
 use Rattle.acl_nfs4.proofs.acl.Acl4.difference.Goals as goal
 
@@ -21,4 +21,4 @@ returns-clause-none c =
     (DecideAlike (decided_at first owners) (decided_at second other_owners) bits)
     (IsDifference (decided_at first owners) (decided_at second other_owners) bits) c.difference_by_pairs.ensures
     (pairs_suffice first second owners other_owners bits)
-    (difference_tells (decided_at first owners) (decided_at second other_owners) bits)))
+    (difference_reports (decided_at first owners) (decided_at second other_owners) bits)))

@@ -1,4 +1,4 @@
-use Rattle.std.proofs.Common.{◌≡◌, ◌∙◌, ◌-◌, List, ℕ, ap, arith, drop, refl, sym}
+use Rattle.std.proofs.Common.{◌≡◌, ◌∙◌, ◌-◌, ap, arith, drop, sym}
 use Rattle.acl_names.specs.Bytes.{newline}
 use Rattle.acl_names.specs.Pieces.{parts}
 use Rattle.acl_people.specs.HostFailures.{first_of_lines}

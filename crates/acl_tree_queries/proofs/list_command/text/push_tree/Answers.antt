@@ -1,12 +1,21 @@
-use Rattle.std.proofs.Common.{◌≡◌, ◌∙◌, ◌++◌, All, List, ℕ, ap, map as each, subst, sym}
+use Rattle.std.proofs.Common.{◌≡◌, ◌∙◌, ◌++◌, [], ◌∷◌, All, List, Some, ℕ, ap, refl, map as each, subst, sym}
 use Rattle.std.specs.Map.Iter.{deref_pair}
+use Rattle.acl_listings.specs.Block.{FileValue}
 use Rattle.acl_listings.specs.Numbered.{IsPrintable, files_text}
-use Rattle.acl_listings.proofs.NumberedLemmas.{numbered_again}
-use Rattle.acl_tree.specs.Entries.{Entry}
+use Rattle.acl_listings.proofs.NumberedLemmas.{numbered_again, paths_again}
+use Rattle.acl_tree.specs.Entries.{Entry, path_of}
 use Rattle.acl_tree.specs.declared.node.Node.{Node}
-use Rattle.acl_tree_queries.specs.ListAnswer.{file_at}
+use Rattle.acl_tree_queries.specs.ListAnswer.{HasPathsOf, file_at}
 use Rattle.acl_tree_queries.proofs.ListLemmas.{IsAtPath, on_ok_both, walk_at_paths}
 use Rattle.acl_tree_queries.proofs.list_command.text.push_tree.Goals as goal
+
+-- the paths of printed nodes are theirs
+paths_of_entries : (entries : List Entry) → All IsPrintable (each file_at entries) → HasPathsOf entries (files_text (each file_at entries))
+paths_of_entries entries are = paths_again 1 (each file_at entries) are ∙ shown entries
+  where
+    shown : (entries : List Entry) → each (λ (file : FileValue). Some file.path) (each file_at entries) ≡ each (λ entry. Some (path_of entry)) entries
+    shown [] = refl
+    shown (entry ∷ entries) = ap (λ more. Some entry.0 ∷ more) (shown entries)
 
 pub push_nodes-requires : goal.push_nodes-requires
 push_nodes-requires c =
@@ -23,5 +32,6 @@ returns c =
       c.in_ok-entries.ensures,
       text ∙ ap (λ (es : List Entry). c.args.out.now.items ++ files_text (each file_at es)) same,
       λ names numbers. numbered_again names numbers 1 (each file_at entries) (subst (λ (es : List Entry). All IsPrintable (each file_at es)) same printable),
+      paths_of_entries entries (subst (λ (es : List Entry). All IsPrintable (each file_at es)) same printable),
     ))
     c.push_nodes.ensures.text c.push_nodes.ensures.printable

@@ -6,7 +6,7 @@ use Rattle.acl_listing_changes.proofs.between.progress.Progress.open.Goals as go
 
 pub returns : goal.returns
 returns g c =
-    let wording = g.C.ChangeTeller.wording c.args.sides.now.teller.now in
+    let wording = g.C.ChangeReporter.wording c.args.sides.now.reporter.now in
     let name = c.args.sides.now.name.now in
     let before = c.args.sides.now.before.now in
     let old : Left = c.args.self.now in

@@ -16,5 +16,5 @@ returns g c =
     let same : change_meaning restoring files input before after ≡ restore_meaning files input rows =
     ap (λ (before : List ℕ). change_meaning restoring files input before after) c.before_field-before.ensures
     ∙ ap (change_meaning restoring files input (before_in rows)) c.after_field-after.ensures in
-    subst (λ (meaning : Meaning). Comes meaning c.tell_between.result (g.W.Write.contents c.args.out.now) (g.W.Write.contents c.tell_between.new.out) c.args.err.now c.tell_between.new.err
-    c.args.input.now c.tell_between.new.input) same c.tell_between.ensures
+    subst (λ (meaning : Meaning). Comes meaning c.report_between.result (g.W.Write.contents c.args.out.now) (g.W.Write.contents c.report_between.new.out) c.args.err.now c.report_between.new.err
+    c.args.input.now c.report_between.new.input) same c.report_between.ensures

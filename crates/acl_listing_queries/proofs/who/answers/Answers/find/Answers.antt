@@ -1,10 +1,11 @@
-use Rattle.std.proofs.Common.{rules, ◌≡◌, ◌<◌, ◌≤◌, true, false, bytes_eq, length, sym}
+use Rattle.std.proofs.Common.{rules, ◌≡◌, ◌∙◌, ◌<◌, ◌≤◌, true, false, ap, bytes_eq, length, sym}
 use Rattle.std.specs.Prelude.{is_some}
 use Rattle.std.specs.Option.{option_map_or}
 use Rattle.acl_listings.specs.Block.{path_of}
 use Rattle.acl_listings.specs.declared.limits.TheConstants.{MAX_BLOCK}
+use Rattle.acl_reports.specs.Strangers.{file_stranger}
 use Rattle.acl_listing_queries.specs.WhoSteps.{IsKept, kept_at}
-use Rattle.acl_listing_queries.proofs.AnswersLemmas.{each_kept, now_kept, path_there, same_lines}
+use Rattle.acl_listing_queries.proofs.AnswersLemmas.{each_kept, now_kept, path_there, read_stranger, same_lines, same_stranger}
 use Rattle.acl_listing_queries.proofs.who.answers.Answers.find.Goals as goal
 
 pub returns-then-is_of-clause-found : goal.returns-then-is_of-clause-found
@@ -14,21 +15,47 @@ returns-then-is_of-clause-found c = λ right.
     let some : is_some c.path_and_lines.result.0 ≡ true = search rules in
     let path = path_there (λ path. path.now) c.path_and_lines.result.0 (path_of text) c.path_and_lines.ensures.path some in
     let short : length text ≤ MAX_BLOCK = search rules in
-    let holds : option_map_or (λ kept. bytes_eq kept.lines.items lines) (kept_at c.args.self.now.kept.items c.place_for-place.result) false ≡ true = search rules in
-    same_lines c.args.self.now c.place_for-place.result text lines path.0 right c.path_and_lines.ensures.lines short path.1 holds
+    let holds : option_map_or (λ kept. bytes_eq kept.lines.items lines) (kept_at c.args.self.now.kept.items c.place_for_text-place.result) false ≡ true = search rules in
+    let (file, reads, at) = same_lines c.args.self.now c.place_for_text-place.result text lines path.0 right c.path_and_lines.ensures.lines short path.1 holds in
+    (file, reads, record { kept = at.kept; there = at.there; are = at.are })
+
+pub returns-then-is_of-clause-right : goal.returns-then-is_of-clause-right
+returns-then-is_of-clause-right c = λ right. record { places = right.places; each = right.each }
+
+pub returns-then-is_of-clause-stranger : goal.returns-then-is_of-clause-stranger
+returns-then-is_of-clause-stranger c = λ right.
+    let text = c.args.text.now in
+    let lines = c.path_and_lines.result.1.now in
+    let some : is_some c.path_and_lines.result.0 ≡ true = search rules in
+    let path = path_there (λ path. path.now) c.path_and_lines.result.0 (path_of text) c.path_and_lines.ensures.path some in
+    let short : length text ≤ MAX_BLOCK = search rules in
+    let holds : option_map_or (λ kept. bytes_eq kept.lines.items lines) (kept_at c.args.self.now.kept.items c.place_for_text-place.result) false ≡ true = search rules in
+    c.stranger_at-self.ensures ∙ same_stranger c.args.self.now c.place_for_text-place.result text lines path.0 right c.path_and_lines.ensures.lines short path.1 holds
 
 pub returns-then-place-len-clause-right : goal.returns-then-place-len-clause-right
 returns-then-place-len-clause-right c = λ right.
     let said = c.in_ok-kept.ensures.answers in
-    let is : IsKept c.args.self.now.users c.in_ok-kept.kept = record { text = c.args.text.now; lines = sym c.in_ok-kept.ensures.lines; file = said.0; reads = said.1; answers = said.2 } in
-    let within : c.place_for-place.result < length c.args.self.now.kept.items = search rules in
+    let is : IsKept c.args.self.now.users c.in_ok-kept.kept = record {
+      text = c.args.text.now;
+      lines = sym c.in_ok-kept.ensures.lines;
+      file = said.0;
+      reads = said.1;
+      answers = said.2;
+      stranger = said.3 ∙ ap (file_stranger c.args.self.now.users.host.now said.0) (sym c.in_ok-kept.ensures.lines);
+    } in
+    let within : c.place_for_text-place.result < length c.args.self.now.kept.items = search rules in
     record {
       places = search rules;
-      each = each_kept c.args.self.now.users c.in_ok-kept.kept is c.args.self.now.kept.items c.place_for-place.result within right.each;
+      each = each_kept c.args.self.now.users c.in_ok-kept.kept is c.args.self.now.kept.items c.place_for_text-place.result within right.each;
     }
 
 pub returns-then-place-len-clause-found : goal.returns-then-place-len-clause-found
 returns-then-place-len-clause-found c = λ right.
     let said = c.in_ok-kept.ensures.answers in
-    let within : c.place_for-place.result < length c.args.self.now.kept.items = search rules in
-    (said.0, said.1, record { kept = c.in_ok-kept.kept; there = now_kept c.args.self.now.kept.items c.place_for-place.result c.in_ok-kept.kept within; are = said.2 })
+    let within : c.place_for_text-place.result < length c.args.self.now.kept.items = search rules in
+    (said.0, said.1, record { kept = c.in_ok-kept.kept; there = now_kept c.args.self.now.kept.items c.place_for_text-place.result c.in_ok-kept.kept within; are = said.2 })
+
+pub returns-then-place-len-clause-stranger : goal.returns-then-place-len-clause-stranger
+returns-then-place-len-clause-stranger c = λ right.
+    let said = c.in_ok-kept.ensures.answers in
+    said.3 ∙ sym (read_stranger c.args.self.now.users.host.now c.args.text.now said.0 said.1)

@@ -2,13 +2,13 @@ use Rattle.std.proofs.Common.{rules, ◌≡◌, ◌∙◌, List, ℕ, Some, ap, 
 use Rattle.acl_access.specs.Paths.{printed_path}
 use Rattle.acl_listings.proofs.PathLemmas.{path_of-file}
 use Rattle.acl_reports.specs.Files.{file_of}
-use Rattle.acl_reports.specs.Telling.{IsPart}
+use Rattle.acl_reports.specs.Reporting.{IsPart}
 use Rattle.acl_listing_queries.specs.WhoPart.{part_of}
 use Rattle.acl_listing_queries.specs.WhoSteps.{AreAnswersOf, asking_of, kept_at, names_by, question_by}
 use Rattle.acl_listing_queries.proofs.who.answers.Answers.push_at.Goals as goal
 
-pub returns-in_ok-printed-in-Some-Some : goal.returns-in_ok-printed-in-Some-Some
-returns-in_ok-printed-in-Some-Some c = λ file sticky way reads at inside.
+pub returns-in_ok-printed-in-Some-Some-clause-reported : goal.returns-in_ok-printed-in-Some-Some-clause-reported
+returns-in_ok-printed-in-Some-Some-clause-reported c = λ file sticky way reads at inside.
     let users = c.args.self.now.users in
     let found : Some c.in-Some-Some.kept.now ≡ kept_at c.args.self.now.kept.items c.args.place = search rules in
     let there : Some c.in-Some-Some.kept.now ≡ Some at.kept = found ∙ at.there in

@@ -6,9 +6,10 @@ use Rattle.acl_posix.specs.Perms.{bits_of}
 use Rattle.acl_posix.specs.PermsText.{perms_text}
 use Rattle.acl_reports.specs.Files.{file_of}
 use Rattle.acl_people.specs.Asked.{names_of_people}
+use Rattle.acl_listing_queries.specs.ViaSteps.{decided_lines, shown_if}
 use Rattle.acl_listing_queries.specs.WhoSteps.{IsAnswered, IsFolder, letters_lines, may_lines, question_by, numbers_of_each, whos_of}
-use Rattle.acl_listing_queries.specs.declared.who.answers.Granted.TheVariants.{Letters, Masks, Numbered, Standings, Those}
-use Rattle.acl_listing_queries.proofs.PartLemmas.{letters_part, masks_part, numbers_part, standings_part, those_part}
+use Rattle.acl_listing_queries.specs.declared.who.answers.Granted.TheVariants.{Entries, Letters, Masks, Numbered, Standings, Those}
+use Rattle.acl_listing_queries.proofs.PartLemmas.{decided_part, letters_part, masks_part, numbers_part, standings_part, those_part}
 use Rattle.acl_listing_queries.proofs.who.answers.Users.push.Goals as goal
 
 pub returns-in_ok-push_letters_lines-in-Letters : goal.returns-in_ok-push_letters_lines-in-Letters
@@ -27,8 +28,8 @@ returns-in_ok-push_letters_lines-in-Letters c = λ file sticky way are inside.
           ∙ ap (λ letters. c.args.out.now.items ++ letters_lines perms_text path names (map bits_of letters) marks) c.as_slice.ensures.value,
     )
 
-pub returns-in_ok-push_numbers-in-Numbered : goal.returns-in_ok-push_numbers-in-Numbered
-returns-in_ok-push_numbers-in-Numbered c = λ file sticky way are inside.
+pub returns-in_ok-push-in-Numbered : goal.returns-in_ok-push-in-Numbered
+returns-in_ok-push-in-Numbered c = λ file sticky way are inside.
     let users = c.args.self.now in
     let names = names_of_people users.people.now in
     let marks = c.args.inside.reach.now in
@@ -37,7 +38,7 @@ returns-in_ok-push_numbers-in-Numbered c = λ file sticky way are inside.
     subst (IsAnswered (whos_of users) (question_by users) file.flags.sticky (file_of file)) is are.granted in (
       numbers_of_each names (map bits_of c.in-Numbered.letters.items) marks,
       numbers_part names (whos_of users) sticky file.flags.sticky way c.args.path.now (file_of file) marks inside.reach (question_by users) c.in-Numbered.letters granted,
-      c.in_ok-push_numbers-in-Numbered.ensures
+      c.in_ok-push-in-Numbered.ensures
           ∙ ap (λ names. c.args.out.now.items ++ numbers_of_each (map (λ name. name.items) names) (map bits_of c.as_slice-in-Numbered.result.now) marks) c.as_slice-names.ensures.value
           ∙ ap (λ letters. c.args.out.now.items ++ numbers_of_each names (map bits_of letters) marks) c.as_slice-in-Numbered.ensures.value,
     )
@@ -72,6 +73,22 @@ returns-in_ok-push_may_lines-in-Those c = λ file sticky way are inside.
       c.in_ok-push_may_lines-in-Those.ensures
           ∙ ap (λ names. c.args.out.now.items ++ may_lines path (map (λ name. name.items) names) c.as_slice-in-Those.result.now marks) c.as_slice-names.ensures.value
           ∙ ap (λ places. c.args.out.now.items ++ may_lines path names places marks) c.as_slice-in-Those.ensures.value,
+    )
+
+pub returns-in_ok-push_decided_lines-in-Entries : goal.returns-in_ok-push_decided_lines-in-Entries
+returns-in_ok-push_decided_lines-in-Entries c = λ file sticky way are inside.
+    let users = c.args.self.now in
+    let names = names_of_people users.people.now in
+    let path = c.args.path.now in
+    let marks = c.args.inside.reach.now in
+    let is : c.args.kept.now.granted ≡ Entries c.in-Entries.decided = search rules in
+    let granted : IsAnswered (whos_of users) (question_by users) file.flags.sticky (file_of file) (Entries c.in-Entries.decided) =
+    subst (IsAnswered (whos_of users) (question_by users) file.flags.sticky (file_of file)) is are.granted in (
+      decided_lines path names (map shown_if c.in-Entries.decided.items) marks,
+      decided_part names (whos_of users) sticky file.flags.sticky way path (file_of file) marks inside.reach (question_by users) c.in-Entries.decided granted,
+      c.in_ok-push_decided_lines-in-Entries.ensures
+          ∙ ap (λ names. c.args.out.now.items ++ decided_lines path (map (λ name. name.items) names) (map shown_if c.as_slice-in-Entries.result.now) marks) c.as_slice-names.ensures.value
+          ∙ ap (λ decided. c.args.out.now.items ++ decided_lines path names (map shown_if decided) marks) c.as_slice-in-Entries.ensures.value,
     )
 
 pub returns-in_ok-push_may_lines-in-Standings : goal.returns-in_ok-push_may_lines-in-Standings

@@ -2,8 +2,9 @@ use Rattle.std.proofs.Common.{◌≡◌, ◌∙◌, List, ℕ, ap, inr, refl, su
 use Rattle.clap.specs.Words.{Row, found_of, rows_of}
 use Rattle.acl_cli.proofs.CommandsLemmas.{Comes-as}
 use Rattle.acl_people.specs.Host.{names_of_host}
-use Rattle.acl_reports.specs.Listed.{AnswersListing, BeginsListing}
-use Rattle.acl_reports.specs.ListingMeaning.{FailsForListing, bytes_named, inputs_of, listing_meaning}
+use Rattle.acl_reports.specs.Listed.{AnswersNaming, BeginsNaming}
+use Rattle.acl_reports.specs.ListingMeaning.{FailsForListing, bytes_named, inputs_of, naming_meaning}
+use Rattle.acl_reports.specs.Strangers.{stranger_in}
 use Rattle.acl_people.specs.Asked.{names_of_people, persons_of}
 use Rattle.acl_people.proofs.AskedLemmas.{persons_again}
 use Rattle.acl_listing_queries.specs.WhoMeaning.{reach_in, who_meaning}
@@ -21,18 +22,18 @@ returns g c =
     let (persons, people, persons_are) = c.in_ok-people.ensures.read in
     let name = c.listing_field.result.now in
     let name_is = c.listing_field.ensures in
-    let told : Asking = record {
+    let reported : Asking = record {
       names = names_of_host host;
       persons = persons_of (names_of_people c.in_ok-people.people) c.in_ok-people.people.requesters.items;
       question = asked_for;
       reach = c.reach_field.result;
     } in
     let asked : Asking = record { names = names_of_host host; persons = persons; question = asked_for; reach = reach_in rows } in
-    let asking_is : told ≡ asked =
-    ap (λ persons. record told { persons = persons }) (persons_again persons c.in_ok-people.people people)
+    let asking_is : reported ≡ asked =
+    ap (λ persons. record reported { persons = persons }) (persons_again persons c.in_ok-people.people people)
     ∙ ap (λ reach. record { names = names_of_host host; persons = persons; question = asked_for; reach = reach }) c.reach_field.ensures in
-    let part = listing_meaning files input name (names_of_host host) (who_part told) in
-    Comes-as part (who_meaning files input rows) c.tell_who.result _ _ _ _ _ _
+    let part = naming_meaning files input name (names_of_host host) (who_part reported) (stranger_in host) in
+    Comes-as part (who_meaning files input rows) c.report_who.result _ _ _ _ _ _
     (λ answer is. record {
       host = host;
       host_is = c.in_ok-host.ensures.opened;
@@ -40,8 +41,8 @@ returns g c =
       persons_are = persons_are;
       question = asked_for;
       question_is = c.in_ok-asked.ensures.read;
-      is = subst (λ (name : List ℕ). AnswersListing name (names_of_host host) (who_part asked) (bytes_named files input name) answer) name_is
-          (subst (λ (asking : Asking). AnswersListing name (names_of_host host) (who_part asking) (bytes_named files input name) answer) asking_is is);
+      is = subst (λ (name : List ℕ). AnswersNaming name (names_of_host host) (who_part asked) (stranger_in host) (bytes_named files input name) answer) name_is
+          (subst (λ (asking : Asking). AnswersNaming name (names_of_host host) (who_part asking) (stranger_in host) (bytes_named files input name) answer) asking_is is);
     })
     (λ answer is. record {
       host = host;
@@ -50,9 +51,9 @@ returns g c =
       persons_are = persons_are;
       question = asked_for;
       question_is = c.in_ok-asked.ensures.read;
-      is = subst (λ (name : List ℕ). BeginsListing name (names_of_host host) (who_part asked) (bytes_named files input name) answer) name_is
-          (subst (λ (asking : Asking). BeginsListing name (names_of_host host) (who_part asking) (bytes_named files input name) answer) asking_is is);
+      is = subst (λ (name : List ℕ). BeginsNaming name (names_of_host host) (who_part asked) (stranger_in host) (bytes_named files input name) answer) name_is
+          (subst (λ (asking : Asking). BeginsNaming name (names_of_host host) (who_part asking) (stranger_in host) (bytes_named files input name) answer) asking_is is);
     })
     (λ failure fails. inr (rw c.in_ok-asked.ensures.read refl, inr (inr (subst (λ (name : List ℕ). FailsForListing name failure) name_is fails))))
     (λ none. ap inputs_of name_is ∙ none)
-    c.tell_who.ensures
+    c.report_who.ensures

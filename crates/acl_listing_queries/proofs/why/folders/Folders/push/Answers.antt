@@ -7,13 +7,14 @@ use Rattle.acl_reports.specs.Files.{file_of}
 use Rattle.acl_listing_queries.specs.Readings.{Reading, reading_of}
 use Rattle.acl_listing_queries.specs.Ways.{folder_of}
 use Rattle.acl_listing_queries.specs.WhySteps.{asked_by, is_held}
-use Rattle.acl_listing_queries.specs.WhyText.{WhyAsking, decision_text, folder_text}
+use Rattle.acl_listing_queries.specs.WhyReasons.{decision_text}
+use Rattle.acl_listing_queries.specs.WhyText.{WhyAsking, folder_text}
 use Rattle.acl_listing_queries.proofs.WhyWayLemmas.{folders-more, known-more}
 use Rattle.acl_listing_queries.proofs.why.folders.Folders.push.Goals.{then-granted, else-granted}
 use Rattle.acl_listing_queries.proofs.why.folders.Folders.push.Goals as goal
 
-pub returns-clause-told : goal.returns-clause-told
-returns-clause-told c = λ way was.
+pub returns-clause-reported : goal.returns-clause-reported
+returns-clause-reported c = λ way was.
     let asking : WhyAsking = asked_by c.args.question.now in
     let text : List ℕ = c.args.text.now in
     let next : Reading = reading_of asking.names text in
@@ -21,19 +22,19 @@ returns-clause-told c = λ way was.
     let reads : file_by asking.names text ≡ Ok file = search rules in
     let acl : File = file_of file in
     let folder_is : folder_of next ≡ Some acl = ap (λ said. folder_of (record { path = path_of text; file = said })) reads in
-    let held : is_held way next.path ≡ true = ap (is_held way) (sym c.path_of.ensures) ∙ sym (c.are_above.ensures way was.last) ∙ search rules in
+    let held : is_held way next.path ≡ true = ap (is_held way) (sym c.path_of.ensures) ∙ sym (c.are_above.ensures asking.names way was.last) ∙ search rules in
     let granted : c.in_ok-granted.granted ≡ may acl asking.who 1 = search rules in
     let both : c.if-granted.self ≡ (c.in_ok-granted.granted && c.args.self.now.reach) =
     elim c.if-granted.branch [
       | then-granted w ↦ w.self-is ∙ ap (λ b. b && c.args.self.now.reach) (sym w.if-granted.true)
       | else-granted w ↦ w.self-is ∙ w.if-granted.false ∙ ap (λ b. b && c.args.self.now.reach) (sym w.if-granted.false)
     ] in
-    let told : c.push_decision.new.out.items ≡ c.args.self.now.text.items ++ decision_text (codes "folder") file.path acl asking.who 1 = search rules in
+    let reported : c.push_decision.new.out.items ≡ c.args.self.now.text.items ++ decision_text (codes "folder") file.path acl asking.who 1 = search rules in
     record {
       files = acl ∷ was.files;
       known = known-more way next acl was.files was.known held folder_is;
       reach = both ∙ ap (λ b. b && c.args.self.now.reach) granted ∙ ap (λ b. may acl asking.who 1 && b) was.reach;
-      text = told ∙ ap (λ (front : List ℕ). front ++ decision_text (codes "folder") file.path acl asking.who 1) was.text
+      text = reported ∙ ap (λ (front : List ℕ). front ++ decision_text (codes "folder") file.path acl asking.who 1) was.text
           ∙ sym (folders-more asking.who way next ∙ ap (λ said. flat_map (folder_text asking.who) (reverse way) ++ folder_text asking.who (record { path = path_of text; file = said })) reads);
-      last = refl;
+      last = (refl, refl);
     }

@@ -1,5 +1,0 @@
-use Rattle.acl_listing_creation.proofs.FoldersLemmas.{each_folder}
-use Rattle.acl_listing_creation.proofs.laws.each_folder_is_told.Goals as goal
-
-pub returns : goal.returns
-returns c = λ asking blocks. each_folder asking blocks

@@ -1,0 +1,4 @@
+pub mod DeletionLemmas
+pub mod EffectLemmas
+pub mod FoundLemmas
+pub mod LintLemmas

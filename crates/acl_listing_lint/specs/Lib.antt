@@ -1,0 +1,12 @@
+pub mod Found
+pub mod Masked
+pub mod NoAccount
+pub mod Effects
+pub mod AceEffects
+pub mod Deletions
+pub mod Pending
+pub mod Findings
+pub mod Lints
+pub mod LintsLine
+pub mod LintsMeaning
+pub mod LintSteps

@@ -1,0 +1,59 @@
+-- What `lint` answers of the blocks of a listing.
+use Rattle.std.specs.Prelude.{◌≡◌, ◌⊎◌, ◌&&◌, ℕ, Bool, not, List, [], ◌∷◌, ◌++◌, Option, None}
+use Rattle.std.specs.Prelude.{IfSome}
+use Rattle.acl_cli.specs.Commands.{Answer}
+use Rattle.acl_cli.specs.Reporting.{is_empty}
+use Rattle.acl_listing_changes.specs.Changes.{with_difference}
+use Rattle.acl_listings.specs.Cursor.{blocks_to_come}
+use Rattle.acl_listings.specs.Listing.{Block}
+use Rattle.acl_people.specs.Host.{names_of_host}
+use Rattle.acl_reports.specs.Listed.{AreSaid, Item, Part, closing, ending_of, no_blocks, reported}
+use Rattle.acl_reports.specs.Listed.{tally_with}
+use Rattle.acl_reports.specs.declared.tally.Tally.{Tally}
+use Rattle.acl_listing_lint.specs.Findings.{IsPartOf, LintAsking, pending_behind}
+use Rattle.acl_listing_lint.specs.Pending.{Pending}
+
+-- blocks, each with what it results in behind those before it
+abbrev pub AreItems : LintAsking → Option Pending → List Block → List Item → Type 0
+AreItems asking pending [] items = items ≡ []
+AreItems asking pending (block ∷ blocks) items = (part : Part) × (rest : List Item)
+    × IsPartOf asking pending block part
+    × AreItems asking (pending_behind asking pending block) blocks rest
+    × (items ≡ record { block = block; part = part } ∷ rest)
+
+-- the texts are what is reported and said of the first of them, and maybe at the end, of a listing
+-- of which so much was counted before, and this file is pending
+pub record AreBegun (asking : LintAsking) (pending : Option Pending) (tally : Tally)
+    (blocks : List Block) (text more : List ℕ) : Type 0 where
+  pub first : List Block
+  pub rest : List Block
+  pub are : blocks ≡ first ++ rest
+  pub items : List Item
+  pub items_are : AreItems asking pending first items
+  pub text_is : text ≡ reported items
+  pub said : List ℕ
+  pub said_are : AreSaid asking.name (names_of_host asking.host) items said
+  pub more_is : (more ≡ said)
+      ⊎ ((rest ≡ []) × (more ≡ said ++ closing asking.name (tally_with tally items)))
+
+-- the answer about these blocks; it differs where something is found, if that is asked
+pub record IsAnswer (asking : LintAsking) (asks : Bool) (blocks : List Block) (answer : Answer)
+    : Type 0 where
+  pub items : List Item
+  pub items_are : AreItems asking None blocks items
+  pub text : answer.text ≡ reported items
+  pub said : List ℕ
+  pub said_are : AreSaid asking.name (names_of_host asking.host) items said
+  pub beside : answer.beside ≡ said ++ closing asking.name (tally_with no_blocks items)
+  pub ending : answer.ending ≡ with_difference (asks && not (is_empty answer.text))
+      (ending_of (tally_with no_blocks items))
+
+-- of a listing with these bytes, if they are known: of a block that is too long its first bytes
+abbrev pub AnswersLints : LintAsking → Bool → Option (List ℕ) → Answer → Type 0
+AnswersLints asking asks bytes answer = IfSome (blocks_to_come 1 bytes) (λ blocks.
+    IsAnswer asking asks blocks answer)
+
+-- and as far as it is begun
+abbrev pub BeginsLints : LintAsking → Bool → Option (List ℕ) → Answer → Type 0
+BeginsLints asking asks bytes answer = IfSome (blocks_to_come 1 bytes) (λ blocks.
+    AreBegun asking None no_blocks blocks answer.text answer.beside)

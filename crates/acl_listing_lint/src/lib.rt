@@ -1,0 +1,18 @@
+//! `lint` of a listing of real files: what in it is wrong, or of no use, and where.
+#![tactic(auto)]
+
+mod aces;
+mod block;
+mod command;
+mod deletions;
+mod entries;
+mod found;
+mod laws;
+mod masked;
+mod no_account;
+mod no_effect;
+mod pending;
+mod report;
+
+pub use command::LintListing;
+pub use laws::anybody_deletes;

@@ -1,0 +1,207 @@
+//! What is reported for a listing, block by block.
+ghost use Rattle.std.specs.Prelude.{◌≡◌, ◌⊎◌, IfErr, IfOk, OnErr, OnOk};
+ghost use Rattle.std.specs.Bool.{MatchBool};
+ghost use Rattle.acl_cli.specs.Commands.{Comes, FrontWentOut, NothingWentOut, WentOut};
+ghost use Rattle.acl_cli.specs.Failures.{failed_write};
+ghost use Rattle.acl_listings.specs.Cursor.{HandsOut, IsOver};
+ghost use Rattle.acl_reports.specs.Reporting.{IsListingFailure};
+ghost use Rattle.acl_listing_lint.specs.LintSteps.{IsBlockDone};
+ghost use Rattle.acl_listing_lint.specs.Lints.{AnswersLints, BeginsLints};
+ghost use Rattle.acl_listing_lint.specs.LintsMeaning.{named_meaning};
+
+use crate::block::report_block;
+use crate::pending::Pending;
+use acl_cli::{Ending, ErrorOutput, Failure, OpenFiles, Reason, Reporting, report_each};
+use acl_listing_changes::with_difference;
+use acl_listings::Blocks;
+use acl_people::Host;
+use acl_reports::{INPUT, Tally, advance};
+use std::alloc::Global;
+use std::io::{Read, Write};
+
+/// What is left to report of a listing.
+#[derive(Drop)]
+pub(crate) struct Linting<'n, 't, R: Read + Drop> {
+    name: &'n str,
+    host: &'t Host,
+    blocks: Blocks<R>,
+    /// The file of the last block that says one, if what comes after may show that it is a folder
+    /// in which anybody may delete.
+    pending: Option<Pending>,
+    tally: Tally,
+    /// Whether what is said at the end was said.
+    closed: bool,
+}
+
+impl<'n, 't, R: Read + Drop> Linting<'n, 't, R> {
+    /// Takes the next block, if there is one.
+    fn advance(&mut self) -> Result<bool, Failure<'n>>
+        ensures name { self.new.name ≡ self.old.name }
+        ensures rest { OnOk result (self.new ≡ record self.old { blocks = self.new.blocks }) }
+        ensures block { IfOk result (λ some. MatchBool some
+            (HandsOut self.old.blocks.coming self.new.blocks.block self.new.blocks.coming)
+            (IsOver self.old.blocks.coming)) }
+        ensures failed { IfErr result (IsListingFailure self.old.name.now) }
+    {
+        advance(self.name, &mut self.blocks)
+    }
+
+    /// Reports of the block at hand.
+    fn report_here(
+        &mut self,
+        alloc: Global,
+        out: &mut Vec<u8>,
+        beside: &mut Vec<u8>,
+    ) -> Result<(), Failure<'n>>
+        ensures name { self.new.name ≡ self.old.name }
+        ensures rest { OnOk result (self.new
+            ≡ record self.old { pending = self.new.pending; tally = self.new.tally }) }
+        ensures reported { OnOk result (IsBlockDone
+            (record { name = self.old.name.now; host = self.old.host.now })
+            self.old.pending self.new.pending self.old.blocks.block self.old.tally self.new.tally
+            out.old.items out.new.items beside.old.items beside.new.items) }
+        ensures failed { IfErr result (IsListingFailure self.old.name.now) }
+    {
+        let line = self.blocks.line();
+        let text = self.blocks.text();
+        let fault = report_block(
+            alloc,
+            self.name,
+            self.host,
+            &mut self.pending,
+            line,
+            text,
+            out,
+            beside,
+        )?;
+        match self.tally.with(text, fault) {
+            Some(tally) => {
+                self.tally = tally;
+                Ok(())
+            }
+            // No listing has so many blocks.
+            None => Err(Failure::Unread(self.name)),
+        }
+    }
+}
+
+impl<'n, 't, R: Read + Drop> Reporting<'n> for Linting<'n, 't, R> {
+    ghost use Rattle.acl_reports.specs.Reporting.{IsListingFailure};
+    ghost use Rattle.acl_listing_lint.specs.LintSteps.{EndsSo, IsBegun, IsReported};
+
+    ghost Reports = { λ linting. IsReported (record {
+      asking = record { name = linting.name.now; host = linting.host.now };
+      pending = linting.pending;
+      tally = linting.tally;
+      closed = linting.closed;
+      coming = linting.blocks.coming;
+    }) };
+
+    ghost Begins = { λ linting. IsBegun (record {
+      asking = record { name = linting.name.now; host = linting.host.now };
+      pending = linting.pending;
+      tally = linting.tally;
+      closed = linting.closed;
+      coming = linting.blocks.coming;
+    }) };
+
+    ghost Ends = { λ linting. EndsSo (record {
+      asking = record { name = linting.name.now; host = linting.host.now };
+      pending = linting.pending;
+      tally = linting.tally;
+      closed = linting.closed;
+      coming = linting.blocks.coming;
+    }) };
+
+    ghost Fails = { λ linting. IsListingFailure linting.name.now };
+
+    fn report_next(
+        &mut self,
+        alloc: Global,
+        out: &mut Vec<u8>,
+        beside: &mut Vec<u8>,
+    ) -> Result<bool, Failure<'n>> {
+        if self.closed {
+            return Ok(false);
+        }
+        if self.advance()? {
+            self.report_here(alloc, out, beside)?;
+            return Ok(true);
+        }
+        self.tally.push_closing(self.name, beside)?;
+        self.closed = true;
+        Ok(true)
+    }
+}
+
+/// Writes the findings in each block of the listing that the reader reads, in pieces as they are
+/// read, and to `err` a line for each malformed block, and at the end how many these are.
+fn report_listing<'n, R, W, E>(
+    alloc: Global,
+    name: &'n str,
+    host: &Host,
+    asks: bool,
+    reader: R,
+    out: &mut W,
+    err: &mut ErrorOutput<E>,
+) -> Result<Ending, Failure<'n>>
+where
+    R: Read + Drop,
+    W: Write,
+    E: Write + Drop,
+    ensures answered { IfOk result (λ ending. WentOut (AnswersLints
+        (record { name = name.entry.now; host = host.now }) asks (R.remaining reader)) ending
+        (W.contents out.old) (W.contents out.new) err.old err.new) }
+    ensures cut { OnErr result (NothingWentOut (W.contents out.old) (W.contents out.new) err.old
+        err.new ⊎ FrontWentOut (BeginsLints (record { name = name.entry.now; host = host.now })
+        asks (R.remaining reader)) (W.contents out.old) (W.contents out.new) err.old err.new) }
+    ensures failed { IfErr result (λ failure. IsListingFailure name.entry.now failure
+        ⊎ (failure ≡ failed_write)) }
+{
+    let blocks = Blocks::new(alloc, reader)?;
+    let mut linting = Linting {
+        name,
+        host,
+        blocks,
+        pending: None,
+        tally: Tally::new(),
+        closed: false,
+    };
+    let some = report_each(alloc, &mut linting, out, err)?;
+    if linting.closed {
+        Ok(with_difference(asks, some, linting.tally.ending()))
+    } else {
+        // All is reported only once the end is.
+        Err(Failure::Unread(name))
+    }
+}
+
+/// Writes the findings in the listing of this name: `input` for `-`, and else the file with the
+/// name, which leaves `input` as it is.
+pub(crate) fn report_named<'n, F, I, W, E>(
+    alloc: Global,
+    files: &F,
+    name: &'n str,
+    host: &Host,
+    asks: bool,
+    input: &mut I,
+    out: &mut W,
+    err: &mut ErrorOutput<E>,
+) -> Result<Ending, Failure<'n>>
+where
+    F: OpenFiles,
+    I: Read,
+    W: Write,
+    E: Write + Drop,
+    ensures { Comes (named_meaning (F.bytes_of files.now) (I.remaining input.old)
+        (record { name = name.entry.now; host = host.now }) asks) result (W.contents out.old)
+        (W.contents out.new) err.old err.new input.old input.new }
+{
+    if name == INPUT {
+        return report_listing(alloc, name, host, asks, input, out, err);
+    }
+    match files.open(name) {
+        Ok(file) => report_listing(alloc, name, host, asks, file, out, err),
+        Err(error) => Err(Failure::CannotRead(name, Reason::of(error.kind()))),
+    }
+}
