@@ -84,39 +84,88 @@ static void nfs4_times(int n, int groups)
     printf("| %d, %s | %.1f | %.1f | %.1f | %.1f |\n", n, groups ? "half groups" : "users", check, decide, hand, tested);
 }
 
-/* Who deletes a file from a folder, of n entries each; and what is made in a folder with n entries for users, 5 of which are inherited. */
+/* Who deletes a file from a folder, of n entries each. */
 static void folder_times(int n)
 {
-    static struct meardwyn_ace aces[1024], folder[128], out[128];
+    static struct meardwyn_ace aces[1024];
     struct meardwyn_file file = {1, 2};
-    struct meardwyn_making making = {MEARDWYN_FILE, 0640, 022, MEARDWYN_CHMOD_LEAST};
-    uint32_t gids[17], mode;
+    uint32_t gids[17];
     int32_t error;
-    size_t needed;
     for (int i = 0; i < 17; i++) gids[i] = 9000 + i;
     for (int i = 0; i < n; i++) aces[i] = (struct meardwyn_ace){i % 5 == 4, 0, 0x1200e9, 0, 5000 + i};
     aces[n - 1] = (struct meardwyn_ace){0, 0, 0x1200ab, 3, 0};
-    for (int i = 0; i < n && i < 128; i++) folder[i] = aces[i], folder[i].flag = i < 5 ? MEARDWYN_NFS4_FILE_INHERIT : 0;
     int rounds = 400000 / (n + 10);
-    double deletes = 1e18, creates = 1e18, inherits = 1e18;
-    IN_TURNS {
-        LEAST(deletes, rounds, for (int i = 0; i < rounds; i++) sink += meardwyn_nfs4_may_delete(aces, n, &file, 1, aces, n, &file, 3, gids, 17, &error));
-        if (n > 128) continue;
-        LEAST(creates, rounds, for (int i = 0; i < rounds; i++) sink += meardwyn_nfs4_create(folder, n, &making, out, 128, &needed, &mode));
-        LEAST(inherits, rounds, for (int i = 0; i < rounds; i++) sink += meardwyn_nfs4_inherit(folder, n, 0, out, 128, &needed));
-    }
-    if (n > 128) printf("| %d | %.1f | | |\n", n, deletes);
-    else printf("| %d | %.1f | %.1f | %.1f |\n", n, deletes, creates, inherits);
+    double deletes = 1e18;
+    IN_TURNS LEAST(deletes, rounds, for (int i = 0; i < rounds; i++) sink += meardwyn_nfs4_may_delete(aces, n, &file, 1, aces, n, &file, 3, gids, 17, &error));
+    printf("| %d | %.1f |\n", n, deletes);
 }
 
-/* Does one work over and over, for callgrind: `ours` and `hand` (checked and decided) of a check, `nfs4` of a translation. */
+/* ---- pairs: a call, and the same by hand with the same tests, over one list of n entries and a user in 17 groups */
+
+static struct {
+    struct meardwyn_ace aces[128], folder[128], out[128];
+    uint8_t xdr[MEARDWYN_MOST_XDR], put[MEARDWYN_MOST_XDR];
+    size_t n, xdr_len, needed;
+    uint32_t gids[17], mode;
+    struct meardwyn_file file;
+    struct meardwyn_decided said;
+} it;
+
+static void one_decide(void) { sink += meardwyn_nfs4_decide(it.aces, it.n, &it.file, 3, it.gids, 17, 0x1f01ff, &it.said) + it.said.allowed; }
+static void one_hand_decide(void) { sink += hand_decide(it.aces, it.n, 1, 2, 3, it.gids, 17, 0x1f01ff, &it.said) + it.said.allowed; }
+static void one_from_xdr(void) { sink += meardwyn_nfs4_from_xdr(it.xdr, it.xdr_len, it.out, 128, &it.needed) + it.needed; }
+static void one_hand_from_xdr(void) { sink += hand_from_xdr(it.xdr, it.xdr_len, it.out, 128, &it.needed) + it.needed; }
+static void one_to_xdr(void) { sink += meardwyn_nfs4_to_xdr(it.aces, it.n, it.put, sizeof it.put, &it.needed) + it.needed; }
+static void one_hand_to_xdr(void) { sink += hand_to_xdr(it.aces, it.n, it.put, sizeof it.put, &it.needed) + it.needed; }
+static const struct meardwyn_making making = {MEARDWYN_FILE, 0640, 022, MEARDWYN_CHMOD_LEAST};
+static void one_create(void) { sink += meardwyn_nfs4_create(it.folder, it.n, &making, it.out, 128, &it.needed, &it.mode) + it.needed; }
+static void one_hand_create(void) { sink += hand_create(it.folder, it.n, &making, it.out, 128, &it.needed, &it.mode) + it.needed; }
+
+static const struct pair { const char *name; void (*ours)(void), (*hand)(void); } pairs[] = {
+    {"decide", one_decide, one_hand_decide},       {"decide-groups", one_decide, one_hand_decide}, {"from_xdr", one_from_xdr, one_hand_from_xdr},
+    {"to_xdr", one_to_xdr, one_hand_to_xdr},       {"create", one_create, one_hand_create},
+};
+enum { PAIRS = sizeof pairs / sizeof *pairs };
+
+/* The list: of users, or half of groups, and EVERYONE@ last; the folder's first five are inherited. */
+static void fill(const struct pair *pair, int n)
+{
+    int groups = !strcmp(pair->name, "decide-groups");
+    for (int i = 0; i < 17; i++) it.gids[i] = 9000 + i;
+    for (int i = 0; i < n; i++) it.aces[i] = (struct meardwyn_ace){i % 5 == 4, groups && i % 2 ? 0x40 : 0, 0x1200a9, 0, 5000 + i};
+    it.aces[n - 1] = (struct meardwyn_ace){0, 0, 0x1200a9, 3, 0};
+    for (int i = 0; i < n; i++) it.folder[i] = it.aces[i], it.folder[i].flag |= i < 5 ? MEARDWYN_NFS4_FILE_INHERIT : 0;
+    it.n = n, it.file = (struct meardwyn_file){1, 2};
+    it.xdr_len = 0;
+    if (meardwyn_nfs4_to_xdr(it.aces, n, it.xdr, sizeof it.xdr, &it.xdr_len)) { puts("to_xdr"); exit(1); }
+}
+
+/* Stops if the two of a pair don't answer alike. */
+static void compare(const struct pair *pair, int n)
+{
+    static char ours[sizeof it], hand[sizeof it];
+    fill(pair, n);
+    memset(it.out, 0, sizeof it.out), pair->ours(), memcpy(ours, &it, sizeof it);
+    fill(pair, n);
+    memset(it.out, 0, sizeof it.out), pair->hand(), memcpy(hand, &it, sizeof it);
+    if (memcmp(ours, hand, sizeof it)) { printf("%s of %d entries differs from the same by hand\n", pair->name, n); exit(1); }
+}
+
+/* Does one work over and over, for callgrind: `ours` and `hand` (checked and decided) of a check, `nfs4` of a translation; or a call of
+   a pair, or `by-hand-` and its name. */
 static void work(const char *what, int n, int rounds)
 {
     static struct bytes b;
     static struct meardwyn_ace out[128];
-    size_t needed;
+    size_t needed, hand_front = strlen("by-hand-");
     uint32_t gids[2] = {50, 60};
-    int uids = n + 5, ours = !strcmp(what, "ours"), nfs4 = !strcmp(what, "nfs4");
+    int uids = n + 5, ours = !strcmp(what, "ours"), nfs4 = !strcmp(what, "nfs4"), by_hand = !strncmp(what, "by-hand-", hand_front);
+    for (const struct pair *pair = pairs; pair < pairs + PAIRS; pair++) {
+        if (strcmp(what + (by_hand ? hand_front : 0), pair->name)) continue;
+        fill(pair, n);
+        for (int i = 0; i < rounds; i++) by_hand ? pair->hand() : pair->ours();
+        return;
+    }
     plain_list(&b, n);
     for (int i = 0; i < rounds; i++) {
         if (nfs4) sink += meardwyn_posix_to_nfs4(b.at, b.length, out, 128, &needed);
@@ -143,8 +192,30 @@ static double counted(const char *program, const char *what, int n, int rounds)
 /* Instructions of one call, by the difference of two runs. */
 static double instructions(const char *program, const char *what, int n)
 {
-    enum { ROUNDS = 10000 };
-    return (counted(program, what, n, 2 * ROUNDS) - counted(program, what, n, ROUNDS)) / ROUNDS;
+    int rounds = 100000 / (n + 10);
+    return (counted(program, what, n, 2 * rounds) - counted(program, what, n, rounds)) / rounds;
+}
+
+/* Nanoseconds of the two of a pair, and with a program's name instructions. */
+static void pair_row(const struct pair *pair, int n, const char *program)
+{
+    char by_hand[64];
+    double ours = 1e18, hand = 1e18;
+    /* Short turns, and many: on a busy machine too some of them have nothing beside them. */
+    int rounds = 20000 / (n + 10);
+    compare(pair, n);
+    fill(pair, n);
+    for (int again = 0; again < 24; again++) IN_TURNS {
+        LEAST(ours, rounds, for (int i = 0; i < rounds; i++) pair->ours());
+        LEAST(hand, rounds, for (int i = 0; i < rounds; i++) pair->hand());
+    }
+    printf("| %s, %d | %.1f | %.1f | %.2f |", pair->name, n, ours, hand, ours / hand);
+    if (program) {
+        snprintf(by_hand, sizeof by_hand, "by-hand-%s", pair->name);
+        double one = instructions(program, pair->name, n), other = instructions(program, by_hand, n);
+        printf(" %.0f | %.0f | %.2f |", one, other, one / other);
+    }
+    puts("");
 }
 
 int main(int count, char **words)
@@ -160,9 +231,14 @@ int main(int count, char **words)
     translation(3), translation(8), translation(64);
     printf("\n| NFSv4 entries, 17 groups | check ns | decide ns | by hand, trusted ns | by hand, tested ns |\n|---|---|---|---|---|\n");
     for (int groups = 0; groups < 2; groups++) nfs4_times(5, groups), nfs4_times(16, groups), nfs4_times(128, groups), nfs4_times(1024, groups);
-    printf("\n| NFSv4 entries of a folder, 17 groups | may_delete ns | create ns | inherit alone ns |\n|---|---|---|---|\n");
+    printf("\n| NFSv4 entries of a folder and of a file, 17 groups | may_delete ns |\n|---|---|\n");
     folder_times(5), folder_times(16), folder_times(128), folder_times(1024);
-    if (system("valgrind --version > /dev/null 2>&1")) {
+    bool has_valgrind = !system("valgrind --version > /dev/null 2>&1");
+    printf("\n| call, NFSv4 entries | ours ns | by hand ns | times |%s\n|---|---|---|---|%s\n", has_valgrind ? " ours, instructions | by hand, instructions | times |" : "",
+           has_valgrind ? "---|---|---|" : "");
+    for (const struct pair *pair = pairs; pair < pairs + PAIRS; pair++)
+        for (int i = 0; i < 3; i++) pair_row(pair, (int[]){5, 16, 128}[i], has_valgrind ? words[0] : NULL), fflush(stdout);
+    if (!has_valgrind) {
         puts("\nno valgrind: instructions aren't counted");
         return 0;
     }

@@ -1,5 +1,5 @@
 /* What calls allocate: nothing up to 8 POSIX and 16 NFSv4 entries; beyond, they give all of it back, and tell each refused growth, with
-   their buffers as they were. And that calls in several threads answer as in one. */
+   their buffers as they were. And that calls in several threads answer as in one. memory [PERCENT]: of the usual rounds so many percent. */
 #include <pthread.h>
 #include <stdio.h>
 #include <stdlib.h>
@@ -46,6 +46,8 @@ static int call(int which)
     struct meardwyn_difference difference;
     struct meardwyn_file file = {1, 2};
     struct meardwyn_making making = {MEARDWYN_DIRECTORY, 0640, 022, MEARDWYN_CHMOD_LEAST};
+    struct meardwyn_xdr_place place = {0, 0, 0, 0};
+    struct meardwyn_ace ace = {0, 0, 1, MEARDWYN_BY_NAME, 0};
     uint32_t allowed, mode;
     int32_t error = 0;
     switch (which) {
@@ -65,6 +67,7 @@ static int call(int which)
     case 13: return meardwyn_nfs4_inherit(aces, n, 1, out, 128, &needed);
     case 14: return meardwyn_nfs4_compare(aces, n, 1, 2, aces, n, 1, 3, 0x27, &difference);
     case 15: return meardwyn_nfs4_chmod(aces, n, 0640, MEARDWYN_CHMOD_PROFILE, out, 128, &needed);
+    case 25: return meardwyn_nfs4_chmod(aces, n < 120 ? n : 120, 0640, MEARDWYN_CHMOD_KEEP, out, 128, &needed);
     case 16: return meardwyn_nfs4_to_text(aces, n, text, sizeof text, &needed);
     case 17: return meardwyn_posix_to_text(b.at, b.length, text, sizeof text, &needed);
     case 19: return meardwyn_nfs4_to_xdr(aces, n, bytes, sizeof bytes, &needed) == MEARDWYN_NO_MEMORY ? MEARDWYN_NO_MEMORY : 0;
@@ -73,15 +76,21 @@ static int call(int which)
     case 22: return meardwyn_nfs4_may_delete(aces, n, &file, 1, aces, n, &file, 3, gids, 2, &error) ? 1 : error;
     case 23: return meardwyn_posix_may_delete(b.at, b.length, &file, 1, &file, 3, gids, 2, &error) ? 1 : error;
     case 24: return meardwyn_posix_may_delete_linux(b.at, b.length, &file, 1, &file, 3, gids, 2, &error) ? 1 : error;
+    case 27: return meardwyn_nfs4_xdr_next((const uint8_t *)"\0\0\0\0", 4, &place, &ace);
+    case 28: return meardwyn_nfs4_xdr_begin(n, bytes, sizeof bytes, &needed);
+    case 29: return meardwyn_nfs4_xdr_put(&ace, "alice", 5, bytes, sizeof bytes, &needed);
     case 18: return meardwyn_posix_from_text("u::rw-,g::r--,o::---", 20, bytes, sizeof bytes, &needed);
     default: return meardwyn_nfs4_from_text("A::OWNER@:rw", 12, out, 128, &needed);
     }
 }
-enum { CALLS = 26, FREE_OF_MEMORY = 15 };
+enum { CALLS = 30, FREE_OF_MEMORY = 15 };
 
 /* Whether a call never takes memory; and whether it takes none for so few entries, of which a mode makes some more. */
-static int is_free(int which) { return which == 0 || which == 9 || which == 10 || (which >= 21 && which <= 24); }
-static int is_free_for(int which, int nfs4) { return which < FREE_OF_MEMORY || (which == 20 && nfs4 < 6); }
+static int is_free(int which)
+{
+    return which == 0 || (which >= 9 && which <= 12) || which == 14 || (which >= 21 && which <= 24) || which >= 27;
+}
+static int is_free_for(int which, int nfs4) { return which < FREE_OF_MEMORY || which == 25 || (which == 20 && nfs4 < 6); }
 
 static void of_length(int posix, int nfs4, int may_take)
 {
@@ -115,11 +124,11 @@ static void of_length(int posix, int nfs4, int may_take)
     }
 }
 
-static int answers[64];
+static int answers[64], percent = 100;
 
 static void *checks(void *sum)
 {
-    for (int i = 0; i < 20000; i++) {
+    for (int i = 0; i < 200 * percent; i++) {
         int which = i % 20 ? 0 : 9;
         int answer = which ? meardwyn_nfs4_check(aces, n, 1, 2, i % 32, gids, 2, 0x1) : meardwyn_posix_check(b.at, b.length, 1, 2, i % 32, gids, 2, 4);
         *(int *)sum += answer * (i % 7 + 1);
@@ -127,10 +136,12 @@ static void *checks(void *sum)
     return sum;
 }
 
-int main(void)
+int main(int count, char **words)
 {
-    for (int i = 0; i < 20; i++) of_length(i % 6 ? 3 + i % 6 : 3, i % 17, 0);
-    of_length(9, 17, 1), of_length(33, 40, 1), of_length(64, 128, 1);
+    if (count > 1) percent = atoi(words[1]);
+    for (int i = 0; i < 20; i++) if (i % (100 / percent) == 0) of_length(i % 6 ? 3 + i % 6 : 3, i % 17, 0);
+    of_length(9, 17, 1), of_length(33, 40, 1);
+    if (percent == 100) of_length(64, 128, 1);
     pthread_t threads[8];
     for (int i = 0; i < 8; i++) pthread_create(threads + i, NULL, checks, answers + i);
     for (int i = 0; i < 8; i++) pthread_join(threads[i], NULL);

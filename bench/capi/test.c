@@ -296,6 +296,33 @@ static int deletes_by_hand(const struct meardwyn_ace *folder, size_t n, const st
     return !sticky || uid == in->owner || uid == of->owner;
 }
 
+/* The mode that a list shows, RFC 8881, section 6.3.2: of each class what its own entries and those of EVERYONE@ allow. */
+static int mode_by_hand(const struct meardwyn_ace *aces, size_t n)
+{
+    int mode = 0;
+    for (uint32_t class = MEARDWYN_OWNER; class <= MEARDWYN_EVERYONE; class++) {
+        uint32_t allowed = 0, open = 0x27;
+        for (size_t i = 0; i < n; i++) {
+            if (aces[i].type > 1 || aces[i].flag & 8 || (aces[i].special != class && aces[i].special != MEARDWYN_EVERYONE)) continue;
+            if (aces[i].type == 0) allowed |= open & aces[i].access_mask;
+            open &= ~aces[i].access_mask;
+        }
+        mode = 8 * mode + 4 * (allowed & 1) + 2 * ((allowed & 6) == 6) + (allowed >> 5 & 1);
+    }
+    return mode;
+}
+
+/* The bits of a mask that a digit of a mode stands for. */
+static uint32_t bits_of_digit(uint32_t digit)
+{
+    return (digit & 4 ? 1 : 0) | (digit & 2 ? 6 : 0) | (digit & 1 ? 0x20 : 0);
+}
+
+static int names_someone(const struct meardwyn_ace *ace)
+{
+    return ace->type < 2 && !(ace->flag & 8) && ace->special == MEARDWYN_BY_ID;
+}
+
 static void must(int holds, const char *what)
 {
     if (!holds) { printf("%s\n", what); exit(1); }
@@ -318,6 +345,76 @@ static size_t xdr_of(const struct meardwyn_ace *aces, size_t n, uint8_t *to)
     return at - to;
 }
 
+/* A mode that keeps the named: what their entries say stands, the mode gives the rest, and a later mode leaves nothing of it. */
+static void keeping(int lists)
+{
+    static struct meardwyn_ace aces[MOST_ACES], kept[MOST_ACES], again[MOST_ACES], named[MOST_ACES];
+    int asked = 0;
+    for (int i = 0; i < lists; i++) {
+        size_t n = random_aces(aces, i % 10 ? below(17) : below(60)), m, k, l = 0;
+        uint32_t mode = below(512), earlier = below(512);
+        must(meardwyn_nfs4_chmod(aces, n, mode, MEARDWYN_CHMOD_KEEP, kept, MOST_ACES, &m) == 0, "keep");
+        must(meardwyn_nfs4_mode(kept, m) == (int)mode && mode_by_hand(kept, m) == (int)mode, "the mode beside the named");
+        must(meardwyn_nfs4_chmod(aces, n, earlier, MEARDWYN_CHMOD_KEEP, again, MOST_ACES, &k) == 0
+             && meardwyn_nfs4_chmod(again, k, mode, MEARDWYN_CHMOD_KEEP, again, MOST_ACES, &k) == 0 && k == m
+             && !memcmp(again, kept, m * sizeof *kept), "a mode after another");
+        for (size_t j = 0; j < n; j++) if (names_someone(aces + j)) named[l++] = aces[j];
+        size_t at = 0;
+        for (size_t j = 0; j < m; j++) if (names_someone(kept + j)) must(at < l && !memcmp(kept + j, named + at++, sizeof *kept), "a named entry");
+        must(at == l, "a named entry is gone");
+        for (int j = 0; j < 20; j++, asked++) {
+            uint32_t gids[4] = {below(8), below(8), below(8), below(8)}, owner = below(8), group = below(8), uid = below(8), allowed = 0;
+            int count = below(5), in_group = 0;
+            for (int g = 0; g < count; g++) in_group |= gids[g] == group;
+            uint32_t said = allowed_by_hand(named, l, owner, group, uid, gids, count, 0x27);
+            uint32_t open = 0x27 & ~said & ~denied_by_hand(named, l, owner, group, uid, gids, count, 0x27);
+            uint32_t wanted = uid == owner ? bits_of_digit(mode >> 6) : said | (open & bits_of_digit(in_group ? mode >> 3 : mode));
+            wanted |= allowed_by_hand(aces, n, owner, group, uid, gids, count, 0x1f01ff & ~0x27);
+            must(meardwyn_nfs4_allowed(kept, m, owner, group, uid, gids, count, 0x1f01ff, &allowed) == 0 && allowed == wanted, "granted beside the named");
+        }
+    }
+    printf("%d modes beside the named: shown, with all named entries, and %d askers as by hand\n", lists, asked);
+}
+
+/* Calls that only decide take any number of entries, and those that take effect nowhere; a mode takes neither. */
+static void without_limits(int lists)
+{
+    enum { LONG = 300 };
+    static struct meardwyn_ace aces[LONG], other[LONG];
+    struct meardwyn_difference d;
+    int told = 0;
+    size_t needed = 77;
+    for (int i = 0; i < lists; i++) {
+        size_t n = 129 + below(LONG - 129);
+        for (size_t at = 0; at < n; at += MOST_ACES) random_aces(aces + at, n - at < MOST_ACES ? n - at : MOST_ACES);
+        aces[0].type %= 2, aces[0].flag &= MEARDWYN_NFS4_IDENTIFIER_GROUP;
+        must(meardwyn_nfs4_valid(aces, n) == 0 && meardwyn_nfs4_mode(aces, n) == mode_by_hand(aces, n), "the mode of a long list");
+        must(meardwyn_nfs4_chmod(aces, n, 0640, below(3), other, LONG, &needed) == MEARDWYN_TOO_MANY, "a mode of a long list");
+        size_t at = 1 + (below(2) ? below(8) : below(n - 2)), m = below(17);
+        aces[at].flag = MEARDWYN_NFS4_INHERIT_ONLY | (aces[at].flag & 0xf0);
+        must(meardwyn_nfs4_valid(aces, n) == 0 && meardwyn_nfs4_mode(aces, n) == mode_by_hand(aces, n), "an entry without effect");
+        memcpy(other, aces, n * sizeof *aces);
+        other[at].flag ^= MEARDWYN_NFS4_INHERIT_ONLY, other[0].type ^= 1;
+        if (m > at) must(meardwyn_nfs4_chmod(aces, m, 0640, below(3), other, LONG, &needed) == MEARDWYN_INHERIT_ONLY, "a mode over it");
+        else if (i % 4 == 0) {
+            int differs = meardwyn_nfs4_compare(aces, n, 1, 2, other, n, 1, 2, 0x1f01ff, &d);
+            uint32_t gids[2] = {d.who.gid, d.who.other_gid};
+            must(differs == 0 || differs == 1, "compare long lists");
+            if (differs) {
+                uint32_t before = 0, after = 0;
+                must(meardwyn_nfs4_allowed(aces, n, 1, 2, d.who.uid, gids, 2, 0x1f01ff, &before) == 0
+                     && meardwyn_nfs4_allowed(other, n, 1, 2, d.who.uid, gids, 2, 0x1f01ff, &after) == 0, "a witness of long lists");
+                must((before & ~after) == d.lost && (after & ~before) == d.gained && before != after, "no witness of long lists");
+                told++;
+            }
+        }
+        other[n - 1] = aces[n - 1], other[n - 1].type = 4;
+        must(meardwyn_nfs4_valid(other, n) == MEARDWYN_BAD_TYPE && meardwyn_nfs4_mode(other, n) == MEARDWYN_BAD_TYPE
+             && meardwyn_nfs4_compare(aces, n, 1, 2, other, n, 1, 2, 1, &d) == MEARDWYN_BAD_TYPE, "a type at the end");
+    }
+    printf("%d NFSv4 lists of more than 128 entries: their modes as by hand, %d with a witness\n", lists, told);
+}
+
 static void nfs4(int lists)
 {
     static struct meardwyn_ace aces[MOST_ACES], other[MOST_ACES], again[MOST_ACES];
@@ -326,7 +423,7 @@ static void nfs4(int lists)
     int checks = 0, alike = 0, told = 0, deletions = 0;
     for (int i = 0; i < lists; i++) {
         size_t needed = 0, n = random_aces(aces, i % 10 ? below(17) : below(129)), m;
-        must(meardwyn_nfs4_valid(aces, n) == 0, "a random list is none");
+        must(meardwyn_nfs4_valid(aces, n) == 0 && meardwyn_nfs4_mode(aces, n) == mode_by_hand(aces, n), "a random list is none");
         for (int j = 0; j < 20; j++, checks++) {
             uint32_t gids[4], owner = below(8), group = below(8), uid = below(8), request = below(0x200), allowed = 0;
             struct meardwyn_file file = {owner, group};
@@ -372,7 +469,7 @@ static void nfs4(int lists)
         }
         /* What is made below is what is inherited, with the mode set; the umask counts where nothing is. */
         for (uint32_t kind = 0; kind < 2; kind++) {
-            struct meardwyn_making making = {kind, below(512), below(512), below(2)};
+            struct meardwyn_making making = {kind, below(512), below(512), below(3)};
             uint32_t its = 0x7777;
             size_t inherits = 0;
             must(meardwyn_nfs4_inherit(aces, n, kind, other, MOST_ACES, &inherits) == 0, "inherit");
@@ -388,18 +485,18 @@ static void nfs4(int lists)
         }
         /* The mode set is the mode shown; to set it again changes nothing; both ways decide alike for whoever asks. */
         uint32_t mode = below(512);
-        int errors[2];
-        for (int how = 0; how < 2; how++) {
+        int errors[3];
+        for (int how = 2; how >= 0; how--) {
             errors[how] = meardwyn_nfs4_chmod(aces, n, mode, how, other, MOST_ACES, &m);
             must(errors[how] == 0 || (errors[how] == MEARDWYN_TOO_MANY && n > 20), "chmod");
             if (errors[how]) continue;
-            must(meardwyn_nfs4_mode(other, m) == (int)mode, "the mode isn't shown");
+            must(meardwyn_nfs4_mode(other, m) == (int)mode && mode_by_hand(other, m) == (int)mode, "the mode isn't shown");
             must(meardwyn_nfs4_chmod(other, m, mode, how, again, MOST_ACES, &needed) == 0 && needed == m && !memcmp(again, other, m * sizeof *again),
                  "chmod twice");
         }
         if (!errors[0]) {
             struct meardwyn_difference none;
-            must(!errors[1] && meardwyn_nfs4_chmod(aces, n, mode, MEARDWYN_CHMOD_PROFILE, again, MOST_ACES, &needed) == 0 && m <= needed, "the least");
+            must(!errors[1] && meardwyn_nfs4_chmod(aces, n, mode, MEARDWYN_CHMOD_LEAST, again, MOST_ACES, &needed) == 0 && needed <= m, "the least");
             must(meardwyn_nfs4_compare(again, needed, 1, 2, other, m, 1, 2, 0x1f01ff, &none) == 0, "the least decides otherwise");
         }
         /* XDR and texts give the same entries. */
@@ -582,6 +679,40 @@ static void kept_bits(void)
     puts("kept bits");
 }
 
+/* A list with names, byte by byte as RFC 4506 has it: a user, a group, OWNER@ and an id. */
+static void names(void)
+{
+    static const uint8_t xdr[] = {
+        0, 0, 0, 4, 0, 0, 0, 0, 0, 0, 0, 3, 0, 0, 0, 1, 0, 0, 0, 17, 'a', 'l', 'i', 'c', 'e', '@', 'e', 'x', 'a', 'm', 'p', 'l', 'e', '.', 'o', 'r', 'g', 0, 0, 0,
+        0, 0, 0, 1, 0, 0, 0, 0x40, 0, 0, 0, 2, 0, 0, 0, 4, 's', 't', 'a', 'f',
+        0, 0, 0, 0, 0, 0, 0, 0, 0, 0, 0, 3, 0, 0, 0, 6, 'O', 'W', 'N', 'E', 'R', '@', 0, 0,
+        0, 0, 0, 0, 0, 0, 0, 0, 0, 0, 0, 1, 0, 0, 0, 2, '5', '0', 0, 0};
+    static const struct meardwyn_ace wanted[] = {
+        {0, 3, 1, MEARDWYN_BY_NAME, 0}, {1, 0x40, 2, MEARDWYN_BY_NAME, 0}, {0, 0, 3, MEARDWYN_OWNER, 0}, {0, 0, 1, MEARDWYN_BY_ID, 50}};
+    static const char *const whos[] = {"alice@example.org", "staf", "OWNER@", "50"};
+    struct meardwyn_xdr_place place = {0, 0, 0, 0};
+    struct meardwyn_ace ace;
+    uint8_t out[sizeof xdr];
+    size_t at, more, needed = 77;
+    must(meardwyn_nfs4_from_xdr(xdr, sizeof xdr, NULL, 0, &needed) == MEARDWYN_UNKNOWN_NAME && needed == 77, "names at once");
+    must(meardwyn_nfs4_xdr_begin(4, out, sizeof out, &at) == 0 && at == 4, "a count");
+    for (size_t i = 0; i < 4; i++, at += more) {
+        must(meardwyn_nfs4_xdr_next(xdr, sizeof xdr, &place, &ace) == 1 && !memcmp(&ace, wanted + i, sizeof ace), "an entry");
+        must(place.who_len == strlen(whos[i]) && !memcmp(xdr + place.who_at, whos[i], place.who_len) && place.left == 3 - i, "its who");
+        must(meardwyn_nfs4_xdr_put(&ace, whos[i], strlen(whos[i]), out + at, sizeof out - at, &more) == 0, "an entry that is written");
+        must(at + more == place.at, "how long it is");
+    }
+    must(meardwyn_nfs4_xdr_next(xdr, sizeof xdr, &place, &ace) == 0 && at == sizeof xdr && !memcmp(out, xdr, sizeof xdr), "the end");
+    must(meardwyn_nfs4_check(wanted, 1, 1, 2, 3, NULL, 0, 1) == MEARDWYN_BAD_WHO, "a name that is decided by");
+    must(meardwyn_nfs4_xdr_put(wanted, "50", 2, out, sizeof out, &more) == MEARDWYN_UNKNOWN_NAME, "an id as a name");
+    must(meardwyn_nfs4_xdr_put(wanted, NULL, 0, NULL, 0, &more) == MEARDWYN_UNKNOWN_NAME, "no name");
+    must(meardwyn_nfs4_xdr_put(wanted + 2, NULL, 0, NULL, 0, &more) == MEARDWYN_NO_ROOM && more == 24, "no room for an entry");
+    must(meardwyn_nfs4_xdr_begin(0, NULL, 0, &more) == MEARDWYN_NO_ROOM && more == 4, "no room for a count");
+    place = (struct meardwyn_xdr_place){0, 0, 0, 0};
+    must(meardwyn_nfs4_xdr_next(NULL, 0, &place, &ace) == MEARDWYN_BAD_SIZE, "no bytes");
+    puts("names");
+}
+
 /* test [PERCENT]: of the usual numbers of lists so many percent. */
 int main(int count, char **words)
 {
@@ -589,7 +720,10 @@ int main(int count, char **words)
     edges();
     nothing();
     kept_bits();
+    names();
     nfs4(40 * percent);
+    keeping(40 * percent);
+    without_limits(2 * percent);
     between(40 * percent);
     beside_libacl(200 * percent);
     beside_the_kernel(15 * percent);

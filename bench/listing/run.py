@@ -145,6 +145,8 @@ def main():
             f"{USERS} users: each file with a list of its own, `--perms w`": (None, *who(many, "--perms", "w"), each),
             f"`impact` of two listings, {changed} files changed, one user": (changed, "impact", "--accounts", one, shared, later),
             f"`impact --all` of the same, {USERS} users": (concerned, "impact", "--all", "--accounts", many, shared, later),
+            # Everybody may search each folder, so that by reach the same lines are reported.
+            f"`impact --reach --all` of the same, {USERS} users": (concerned, "impact", "--reach", "--all", "--accounts", many, shared, later),
             "`restore` of the same": (10 * changed, "restore", shared, later),
             "one user: NFSv4 lists, those of a folder alike, letters": (with_letters(folder_of), *who(one), nfs4),
             "one user: each file with an NFSv4 list of its own, letters": (with_letters(lambda place: place), *who(one), nfs4_each),

@@ -3,7 +3,7 @@
 # (apt-get install libacl1-dev).
 . "$(dirname "$0")/../common.sh"
 want_libacl
-scripts/aclctl decide --owner 0 --group 0 --uid 0 --perms r u::r,g::-,o::- > /dev/null
+bin/aclctl decide --owner 0 --group 0 --uid 0 --perms r u::r,g::-,o::- > /dev/null
 build_driver bench_run bench bench/run/bench.c bench/run/libacl.c
 folder=$(mktemp -d)
 trap 'rm -rf "$folder"' EXIT

@@ -22,7 +22,10 @@ int main(int count, char **words)
     if (count != 5) words[1] = "", number(words + 1);
     uint32_t uid = number(words + 1), gids[1024], perms = number(words + 3);
     size_t groups = 0, length = 0;
-    while (*words[2] && groups < 1024) gids[groups++] = number(words + 2);
+    while (*words[2]) {
+        if (groups == 1024) return fputs("more than 1024 groups\n", stderr), 2;
+        gids[groups++] = number(words + 2);
+    }
 
     struct stat file;
     if (stat(words[4], &file)) return perror(words[4]), 1;

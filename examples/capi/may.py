@@ -5,7 +5,7 @@ import errno
 import os
 import sys
 
-LIBRARY = ctypes.CDLL("libmeardwyn.so.1")
+LIBRARY = ctypes.CDLL("libmeardwyn.so.0")
 NUMBER, SIZE = ctypes.c_uint32, ctypes.c_size_t
 LIBRARY.meardwyn_posix_check_linux.argtypes = [ctypes.c_char_p, SIZE, NUMBER, NUMBER, NUMBER, ctypes.POINTER(NUMBER), SIZE, NUMBER]
 LIBRARY.meardwyn_posix_of_mode.argtypes = [NUMBER, ctypes.c_char_p, SIZE, ctypes.POINTER(SIZE)]
