@@ -8,6 +8,7 @@ ghost use Rattle.acl_listing_queries.specs.WhySteps.{asked_by};
 
 use super::answer::Made;
 use super::asked::sought_field;
+use super::path_word::as_listed;
 use super::question::Question;
 use super::search::seek_named;
 use acl_cli::fields::text_field;
@@ -21,7 +22,7 @@ use acl_people::{Host, Person, read_host};
 use acl_reports::listing_field;
 use acl_reports::options::LISTING;
 use clap::ArgMatches;
-use std::alloc::Global;
+use std::alloc::{AllocError, Global};
 use std::io::{Read, Write};
 
 /// The end of help: the answer, and the exit statuses.
@@ -33,8 +34,8 @@ list of each parent folder in the listing grants x; else denied. Then follows,
 for each of these folders, the outermost first, and for the file:
   folder PATH granted|denied, or file PATH granted|denied
 with the entries that decide, as explain prints them. PATH is written as the
-listing writes it; the first block that has it counts. uid 0 is refused: it may
-do nearly everything.
+listing or an answer writes it (bytes that aren't UTF-8 as \\351); the first
+block that has it counts. uid 0 is refused: it may do nearly everything.
 
 With --delete, the folders are followed by what decides who --delete. For NFSv4
 lists these are d of the file's list, and D of the folder's,
@@ -77,7 +78,7 @@ const WORDS: [Word<'static>; 7] = [
         given: Given::RequiredWord,
         name: "path",
         value: "PATH",
-        help: "The file's path, as the listing writes it",
+        help: "The file's path, as the listing or an answer writes it",
     },
 ];
 
@@ -101,11 +102,11 @@ impl CommandLine for Why {
     }
 }
 
-/// The value of PATH.
-fn path_field<'a>(matches: &ArgMatches<'a>) -> &'a str
-    ensures { result.now ≡ path_in (rows_of (found_of matches.now)) }
+/// PATH, as the listing has it.
+fn path_field(alloc: Global, matches: &ArgMatches<'_>) -> Result<Vec<u8>, AllocError>
+    ensures { IfOk result (λ path. path.items ≡ path_in (rows_of (found_of matches.now))) }
 {
-    text_field(matches, "path").unwrap_or("")
+    as_listed(alloc, text_field(matches, "path").unwrap_or("").as_bytes())
 }
 
 /// The user to evaluate.
@@ -144,7 +145,7 @@ fn report_why<'n, F, I, W, E>(
     alloc: Global,
     files: &F,
     name: &'n str,
-    path: &'n str,
+    path: &[u8],
     question: &Question<'_>,
     input: &mut I,
     out: &mut W,
@@ -156,7 +157,7 @@ where
     W: Write,
     E: Write + Drop,
     ensures { Comes (path_meaning (asked_by question.now) (F.bytes_of files.now)
-        (I.remaining input.old) name.entry.now path.entry.now) result (W.contents out.old)
+        (I.remaining input.old) name.entry.now path.now) result (W.contents out.old)
         (W.contents out.new) err.old err.new input.old input.new }
 {
     let made = seek_named(alloc, files, name, path, question, input)?;
@@ -193,15 +194,7 @@ impl CliCommand for Why {
             sought,
         };
         let name = listing_field(matches);
-        report_why(
-            alloc,
-            files,
-            name,
-            path_field(matches),
-            &question,
-            input,
-            out,
-            err,
-        )
+        let path = path_field(alloc, matches)?;
+        report_why(alloc, files, name, &path, &question, input, out, err)
     }
 }
