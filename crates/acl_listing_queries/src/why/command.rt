@@ -3,6 +3,7 @@ ghost use Rattle.std.specs.Prelude.{◌≡◌, IfErr, IfOk, Ok, OnErr};
 ghost use Rattle.clap.specs.Words.{found_of, rows_of};
 ghost use Rattle.acl_cli.specs.Commands.{Comes, FrontWentOut, WentOut};
 ghost use Rattle.acl_cli.specs.Failures.{Explains, failed_write};
+ghost use Rattle.acl_listing_queries.specs.PathWord.{as_listed};
 ghost use Rattle.acl_listing_queries.specs.WhyMeaning.{path_in, path_meaning, user_in};
 ghost use Rattle.acl_listing_queries.specs.WhySteps.{asked_by};
 
@@ -22,7 +23,7 @@ use acl_people::{Host, Person, read_host};
 use acl_reports::listing_field;
 use acl_reports::options::LISTING;
 use clap::ArgMatches;
-use std::alloc::{AllocError, Global};
+use std::alloc::Global;
 use std::io::{Read, Write};
 
 /// The end of help: the answer, and the exit statuses.
@@ -102,11 +103,11 @@ impl CommandLine for Why {
     }
 }
 
-/// PATH, as the listing has it.
-fn path_field(alloc: Global, matches: &ArgMatches<'_>) -> Result<Vec<u8>, AllocError>
-    ensures { IfOk result (λ path. path.items ≡ path_in (rows_of (found_of matches.now))) }
+/// The value of PATH.
+fn path_field<'a>(matches: &ArgMatches<'a>) -> &'a str
+    ensures { as_listed result.now ≡ path_in (rows_of (found_of matches.now)) }
 {
-    as_listed(alloc, text_field(matches, "path").unwrap_or("").as_bytes())
+    text_field(matches, "path").unwrap_or("")
 }
 
 /// The user to evaluate.
@@ -140,12 +141,12 @@ fn write_made<'n, W: Write, E: Write + Drop>(
     Ok(made.ending)
 }
 
-/// Writes the answer about the file at the path, in the listing of this name.
+/// Writes the answer about the file at the path that a word writes, in the listing of this name.
 fn report_why<'n, F, I, W, E>(
     alloc: Global,
     files: &F,
     name: &'n str,
-    path: &[u8],
+    path: &'n str,
     question: &Question<'_>,
     input: &mut I,
     out: &mut W,
@@ -157,10 +158,11 @@ where
     W: Write,
     E: Write + Drop,
     ensures { Comes (path_meaning (asked_by question.now) (F.bytes_of files.now)
-        (I.remaining input.old) name.entry.now path.now) result (W.contents out.old)
+        (I.remaining input.old) name.entry.now (as_listed path.entry.now)) result (W.contents out.old)
         (W.contents out.new) err.old err.new input.old input.new }
 {
-    let made = seek_named(alloc, files, name, path, question, input)?;
+    let listed = as_listed(alloc, path.as_bytes())?;
+    let made = seek_named(alloc, files, name, listed.as_slice(), question, input)?;
     write_made(&made, out, err)
 }
 
@@ -194,7 +196,15 @@ impl CliCommand for Why {
             sought,
         };
         let name = listing_field(matches);
-        let path = path_field(alloc, matches)?;
-        report_why(alloc, files, name, &path, &question, input, out, err)
+        report_why(
+            alloc,
+            files,
+            name,
+            path_field(matches),
+            &question,
+            input,
+            out,
+            err,
+        )
     }
 }
