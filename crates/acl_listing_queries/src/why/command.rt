@@ -158,8 +158,8 @@ where
     W: Write,
     E: Write + Drop,
     ensures { Comes (path_meaning (asked_by question.now) (F.bytes_of files.now)
-        (I.remaining input.old) name.entry.now (as_listed path.entry.now)) result (W.contents out.old)
-        (W.contents out.new) err.old err.new input.old input.new }
+        (I.remaining input.old) name.entry.now (as_listed path.entry.now)) result
+        (W.contents out.old) (W.contents out.new) err.old err.new input.old input.new }
 {
     let listed = as_listed(alloc, path.as_bytes())?;
     let made = seek_named(alloc, files, name, listed.as_slice(), question, input)?;
