@@ -45,6 +45,12 @@ is_octal first a b c = (first == backslash) && is_between digit_0 digit_3 a
 abbrev pub octal_value : ℕ → ℕ → ℕ → ℕ
 octal_value a b c = (a - digit_0) * 64 + (b - digit_0) * 8 + (c - digit_0)
 
+-- the byte that a text begins with, as `\` and three octal digits
+abbrev pub octal_front : List ℕ → Option ℕ
+octal_front (first ∷ a ∷ b ∷ c ∷ more) =
+    if is_octal first a b c then Some (octal_value a b c) else None
+octal_front text = None
+
 -- two backslashes
 abbrev pub is_pair : ℕ → ℕ → Bool
 is_pair first second = (first == backslash) && (second == backslash)

@@ -9,8 +9,8 @@ ghost use Rattle.acl_names.specs.Ids.{Number, decimal_value};
 ghost use Rattle.acl_names.specs.Pushing.{Pushes};
 ghost use Rattle.acl_names.specs.Bytes.{backslash};
 ghost use Rattle.acl_names.specs.Shown.{octal};
-ghost use Rattle.acl_accounts.specs.Names.{is_octal, is_pair, is_quoted, named, octal_value};
-ghost use Rattle.acl_accounts.specs.Names.{quoted, quoted_byte, splits};
+ghost use Rattle.acl_accounts.specs.Names.{is_octal, is_pair, is_quoted, named, octal_front};
+ghost use Rattle.acl_accounts.specs.Names.{octal_value, quoted, quoted_byte, splits};
 ghost use Rattle.acl_accounts.specs.Names.{unquoted, written_account};
 ghost use Rattle.acl_accounts.specs.declared.limits.TheConstants.{MAX_ACCOUNT_NAME};
 
@@ -91,10 +91,20 @@ pub fn first_unquoted(text: &[u8]) -> Option<(u8, &[u8])>
     if text.len() >= 2 && is_pair(text[0], text[1]) {
         return Some((b'\\', &text[2..]));
     }
-    if text.len() >= 4 && is_octal(text[0], text[1], text[2], text[3]) {
-        return Some((octal_value(text[1], text[2], text[3]), &text[4..]));
+    if let Some(byte) = octal_front(text) {
+        return Some((byte, &text[4..]));
     }
     Some((text[0], &text[1..]))
+}
+
+/// The byte that a text begins with, if it begins with `\` and three octal digits of at most 377.
+pub fn octal_front(text: &[u8]) -> Option<u8>
+    ensures { result ≡ octal_front text.now }
+{
+    if text.len() >= 4 && is_octal(text[0], text[1], text[2], text[3]) {
+        return Some(octal_value(text[1], text[2], text[3]));
+    }
+    None
 }
 
 fn is_pair(first: u8, second: u8) -> bool

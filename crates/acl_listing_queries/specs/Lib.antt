@@ -15,5 +15,6 @@ pub mod WhyDeletion
 pub mod WhyText
 pub mod DeletionLaws
 pub mod WhyLine
+pub mod PathWord
 pub mod WhyMeaning
 pub mod WhySteps

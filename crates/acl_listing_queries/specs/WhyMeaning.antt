@@ -28,12 +28,13 @@ use Rattle.acl_people.specs.Person.{Person}
 use Rattle.acl_reports.specs.Placed.{Placed}
 use Rattle.acl_reports.specs.ListingMeaning.{FailsForListing, bytes_named, inputs_of}
 use Rattle.acl_reports.specs.ListingMeaning.{listing_in}
+use Rattle.acl_listing_queries.specs.PathWord.{as_listed}
 use Rattle.acl_listing_queries.specs.Readings.{Reading, reading_of}
 use Rattle.acl_listing_queries.specs.WhyText.{Deletion, Permissions, Sought, WhyAsking, why_part}
 
--- the value of PATH
+-- PATH, as the listing has it
 abbrev pub path_in : List Row → Text
-path_in rows = unwrap_or (first_of (codes "path") rows) []
+path_in rows = as_listed (unwrap_or (first_of (codes "path") rows) [])
 
 -- what is asked of it
 abbrev pub sought_for : Result ℕ Malformed → Result Sought Malformed

@@ -5,6 +5,7 @@ mod asked;
 mod command;
 mod deletion;
 mod folders;
+mod path_word;
 mod question;
 mod search;
 mod text;

@@ -3,11 +3,13 @@ ghost use Rattle.std.specs.Prelude.{◌≡◌, IfErr, IfOk, Ok, OnErr};
 ghost use Rattle.clap.specs.Words.{found_of, rows_of};
 ghost use Rattle.acl_cli.specs.Commands.{Comes, FrontWentOut, WentOut};
 ghost use Rattle.acl_cli.specs.Failures.{Explains, failed_write};
+ghost use Rattle.acl_listing_queries.specs.PathWord.{as_listed};
 ghost use Rattle.acl_listing_queries.specs.WhyMeaning.{path_in, path_meaning, user_in};
 ghost use Rattle.acl_listing_queries.specs.WhySteps.{asked_by};
 
 use super::answer::Made;
 use super::asked::sought_field;
+use super::path_word::as_listed;
 use super::question::Question;
 use super::search::seek_named;
 use acl_cli::fields::text_field;
@@ -33,8 +35,8 @@ list of each parent folder in the listing grants x; else denied. Then follows,
 for each of these folders, the outermost first, and for the file:
   folder PATH granted|denied, or file PATH granted|denied
 with the entries that decide, as explain prints them. PATH is written as the
-listing writes it; the first block that has it counts. uid 0 is refused: it may
-do nearly everything.
+listing or an answer writes it (bytes that aren't UTF-8 as \\351); the first
+block that has it counts. uid 0 is refused: it may do nearly everything.
 
 With --delete, the folders are followed by what decides who --delete. For NFSv4
 lists these are d of the file's list, and D of the folder's,
@@ -77,7 +79,7 @@ const WORDS: [Word<'static>; 7] = [
         given: Given::RequiredWord,
         name: "path",
         value: "PATH",
-        help: "The file's path, as the listing writes it",
+        help: "The file's path, as the listing or an answer writes it",
     },
 ];
 
@@ -103,7 +105,7 @@ impl CommandLine for Why {
 
 /// The value of PATH.
 fn path_field<'a>(matches: &ArgMatches<'a>) -> &'a str
-    ensures { result.now ≡ path_in (rows_of (found_of matches.now)) }
+    ensures { as_listed result.now ≡ path_in (rows_of (found_of matches.now)) }
 {
     text_field(matches, "path").unwrap_or("")
 }
@@ -139,7 +141,7 @@ fn write_made<'n, W: Write, E: Write + Drop>(
     Ok(made.ending)
 }
 
-/// Writes the answer about the file at the path, in the listing of this name.
+/// Writes the answer about the file at the path that a word writes, in the listing of this name.
 fn report_why<'n, F, I, W, E>(
     alloc: Global,
     files: &F,
@@ -156,10 +158,11 @@ where
     W: Write,
     E: Write + Drop,
     ensures { Comes (path_meaning (asked_by question.now) (F.bytes_of files.now)
-        (I.remaining input.old) name.entry.now path.entry.now) result (W.contents out.old)
-        (W.contents out.new) err.old err.new input.old input.new }
+        (I.remaining input.old) name.entry.now (as_listed path.entry.now)) result
+        (W.contents out.old) (W.contents out.new) err.old err.new input.old input.new }
 {
-    let made = seek_named(alloc, files, name, path, question, input)?;
+    let listed = as_listed(alloc, path.as_bytes())?;
+    let made = seek_named(alloc, files, name, listed.as_slice(), question, input)?;
     write_made(&made, out, err)
 }
 

@@ -31,26 +31,26 @@ fn has_path(text: &[u8], path: &[u8]) -> bool
 fn seek<'n, R: Read + Drop>(
     alloc: Global,
     name: &'n str,
-    path: &'n str,
+    path: &[u8],
     question: &Question<'_>,
     blocks: &mut Blocks<R>,
 ) -> Result<Made, Failure<'n>>
-    ensures made { IfOk result (AnswersPath (asked_by question.now) name.entry.now path.entry.now
+    ensures made { IfOk result (AnswersPath (asked_by question.now) name.entry.now path.now
         blocks.old.coming) }
     ensures failed { IfErr result
-        (FailsForPath name.entry.now path.entry.now blocks.old.coming) }
+        (FailsForPath name.entry.now path.now blocks.old.coming) }
 {
     let mut way = Way::new(alloc);
     for _ in 0..u64::MAX {
         if !advance(name, blocks)? {
-            let text = Vec::from_slice(alloc, path.as_bytes())?;
-            return Err(Failure::Refused(Refusal::for_text(name, "no such file", text)));
+            let path = Vec::from_slice(alloc, path)?;
+            return Err(Failure::Refused(Refusal::for_text(name, "no such file", path)));
         }
         let text = blocks.text();
-        if has_path(text, path.as_bytes()) {
+        if has_path(text, path) {
             return answer_block(alloc, name, question, &mut way, blocks.line(), text);
         }
-        way.go_on(alloc, path.as_bytes(), text)?;
+        way.go_on(alloc, path, text)?;
     }
     // No listing has so many blocks.
     Err(Failure::Unread(name))
@@ -60,13 +60,13 @@ fn seek<'n, R: Read + Drop>(
 fn seek_in<'n, R: Read + Drop>(
     alloc: Global,
     name: &'n str,
-    path: &'n str,
+    path: &[u8],
     question: &Question<'_>,
     reader: R,
 ) -> Result<Made, Failure<'n>>
-    ensures made { IfOk result (AnswersPath (asked_by question.now) name.entry.now path.entry.now
+    ensures made { IfOk result (AnswersPath (asked_by question.now) name.entry.now path.now
         (blocks_to_come 1 (R.remaining reader))) }
-    ensures failed { IfErr result (FailsForPath name.entry.now path.entry.now
+    ensures failed { IfErr result (FailsForPath name.entry.now path.now
         (blocks_to_come 1 (R.remaining reader))) }
 {
     let mut blocks = Blocks::new(alloc, reader)?;
@@ -79,13 +79,13 @@ pub(super) fn seek_named<'n, F: OpenFiles, I: Read>(
     alloc: Global,
     files: &F,
     name: &'n str,
-    path: &'n str,
+    path: &[u8],
     question: &Question<'_>,
     input: &mut I,
 ) -> Result<Made, Failure<'n>>
-    ensures made { IfOk result (AnswersPath (asked_by question.now) name.entry.now path.entry.now
+    ensures made { IfOk result (AnswersPath (asked_by question.now) name.entry.now path.now
         (blocks_named (F.bytes_of files.now) (I.remaining input.old) name.entry.now)) }
-    ensures failed { IfErr result (FailsForPath name.entry.now path.entry.now
+    ensures failed { IfErr result (FailsForPath name.entry.now path.now
         (blocks_named (F.bytes_of files.now) (I.remaining input.old) name.entry.now)) }
     ensures untouched { inputs_of name.entry.now ≡ 0 → input.new ≡ input.old }
 {

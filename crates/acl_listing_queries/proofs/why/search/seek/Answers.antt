@@ -44,8 +44,6 @@ loop-preserved g c =
     let text : c.text-text.result.now ≡ block.text = search rules in
     let lost : option_map_or (bytes_eq path) (path_of c.text-text.result.now) false ≡ false = search rules in
     let lacks : has_path path block ≡ false = ap (λ (text : List ℕ). option_map_or (bytes_eq path) (path_of text) false) (sym text) ∙ lost in
-    let bytes : c.as_bytes-in-loop-2.result.now ≡ path = search rules in
     sought_on asking.names path c.args.blocks.now.coming c.loop.blocks.coming c.advance.new.blocks.coming block hands c.loop.way c.loop.invariant c.go_on.new.self lacks
     (λ earlier was. subst (λ (text : List ℕ). IsWayTo asking.names path (earlier ++ reading_of asking.names text ∷ []) c.go_on.new.self) text
-    (subst (λ (path : List ℕ). IsWayTo asking.names path (earlier ++ reading_of asking.names c.text-text.result.now ∷ []) c.go_on.new.self) bytes
-    (c.in_ok-go_on.ensures asking.names earlier (subst (λ (path : List ℕ). IsWayTo asking.names path earlier c.loop.way) (sym bytes) was))))
+    (c.in_ok-go_on.ensures asking.names earlier was))

@@ -4,6 +4,7 @@ use Rattle.acl_cli.proofs.CommandsLemmas.{Comes-as, Comes-failed}
 use Rattle.acl_people.specs.Host.{names_of_host}
 use Rattle.acl_people.specs.Person.{Person}
 use Rattle.acl_reports.specs.ListingMeaning.{inputs_of}
+use Rattle.acl_listing_queries.specs.PathWord.{as_listed}
 use Rattle.acl_listing_queries.specs.WhyMeaning.{AnswersPath, FailsForPath, blocks_named, path_in, path_meaning, why_meaning}
 use Rattle.acl_listing_queries.specs.WhySteps.{sought_by}
 use Rattle.acl_listing_queries.specs.WhyText.{Sought, WhyAsking}
@@ -19,7 +20,7 @@ returns g c =
     let sought : Sought = sought_by c.in_ok-sought.sought in
     let name : List ℕ = c.listing_field-name.result.now in
     let name_is = c.listing_field-name.ensures in
-    let path : List ℕ = c.path_field.result.now in
+    let path : List ℕ = as_listed c.path_field.result.now in
     let path_is = c.path_field.ensures in
     let asked : WhyAsking = record { names = names_of_host host; who = person.who; sought = sought } in
     let reported : WhyAsking = record { names = names_of_host host; who = c.person.inside.requester; sought = sought } in
