@@ -1,6 +1,6 @@
 -- The first member of each name, of a list that is sorted by names.
 use Rattle.std.proofs.Common.{◌≡◌, ◌∙◌, ℕ, zero, suc, ◌+◌, ◌-◌, ◌<◌, ◌≤◌, Bool, true, false, cond, Ordering, Some, None, List, [], ◌∷◌, ◌++◌}
-use Rattle.std.proofs.Common.{length, take, get_or, refl, sym, subst, ap, arith, nat_cmp, bytes_eq, inl, inr, length-append, add-one}
+use Rattle.std.proofs.Common.{length, filter, take, get_or, refl, sym, subst, ap, arith, nat_cmp, bytes_eq, inl, inr, length-append, add-one}
 use Rattle.std.specs.declared.cmp.Ordering.TheVariants.{Less, Equal, Greater}
 use Rattle.std.specs.Cmp.Lexicographic.{slice_cmp, bytes_decides}
 use Rattle.std.specs.List.{All, find, slice_get}
@@ -15,11 +15,24 @@ use Rattle.std.proofs.lemmas.List.Folds.{find-append}
 use Rattle.std.proofs.lemmas.List.Sorted.{sorted_far, ranks_by}
 use Rattle.std.proofs.Math.Seq.{take-suc}
 use Rattle.std.proofs.lemmas.Option.{slice_get-get_or}
+use Rattle.acl_names.specs.Directory.{first_of}
 use Rattle.acl_names.proofs.AscendingLemmas.{first_or_none}
 use Rattle.acl_names.proofs.Keys.{same_name}
 use Rattle.acl_accounts.specs.Firsts.{AreFirsts}
+use Rattle.acl_accounts.proofs.SortLemmas.{find-filter}
+
+find_stays : {X : Type 0} (p : X → Bool) (old new : List X) → filter p new ≡ filter p old → find p new ≡ find p old
+find_stays p old new kept = find-filter p new ∙ ap first_of kept ∙ sym (find-filter p old)
 
 module _ {X : Type 0} (name_of : X → List ℕ) where
+  -- the first members are those of any list in which the members of each name have the same order
+  pub firsts_stay : (members sorted firsts : List X) → ((name : List ℕ) → filter (λ x. bytes_eq (name_of x) name) sorted ≡ filter (λ x. bytes_eq (name_of x) name) members)
+      → AreFirsts name_of sorted firsts → AreFirsts name_of members firsts
+  firsts_stay members sorted firsts kept are = record {
+    ascends = are.ascends;
+    found = λ name. are.found name ∙ find_stays (λ x. bytes_eq (name_of x) name) members sorted (kept name);
+  }
+
   abbrev pub cmp : X → X → Ordering
   cmp x y = slice_cmp nat_cmp (name_of x) (name_of y)
 

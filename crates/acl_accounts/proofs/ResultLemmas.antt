@@ -6,7 +6,6 @@ use Rattle.std.specs.List.{find}
 use Rattle.std.proofs.Math.ListN.{get_or-map}
 use Rattle.std.proofs.lemmas.List.{length-map, get_or_default}
 use Rattle.acl_names.specs.Ascending.{IsAscending}
-use Rattle.acl_names.specs.Directory.{first_of}
 use Rattle.acl_names.specs.Requester.{Identity}
 use Rattle.acl_accounts.specs.Accounts.{KnownAccount, KnownAccountGroup, Membership, each_once, account_of, group_of, memberships_of}
 use Rattle.acl_accounts.specs.Accounts.{requester_of, requester_with}
@@ -15,7 +14,6 @@ use Rattle.acl_accounts.specs.Rows as text
 use Rattle.acl_accounts.specs.Views.{view_group, view_user}
 use Rattle.acl_accounts.specs.declared.rows.GroupRow.{GroupRow}
 use Rattle.acl_accounts.specs.declared.rows.UserRow.{UserRow}
-use Rattle.acl_accounts.proofs.SortLemmas.{find-filter}
 use Rattle.acl_accounts.proofs.PlaceLemmas.{element}
 
 pub ascends-map : {X Y K : Type 0} (R : K → K → Ordering) (key : Y → K) (f : X → Y) (xs : List X) → IsAscending R (λ x. key (f x)) xs → IsAscending R key (map f xs)
@@ -37,36 +35,29 @@ find-map {X} {Y} f p (x ∷ xs) = go (p (f x)) (find-map f p xs)
     go true rest = refl
     go false rest = rest
 
-find_stays : {X : Type 0} (p : X → Bool) (old new : List X) → filter p new ≡ filter p old → find p new ≡ find p old
-find_stays p old new kept = find-filter p new ∙ ap first_of kept ∙ sym (find-filter p old)
-
 pub map_twice : {X Y Z : Type 0} (f : X → Y) (g : Y → Z) (o : Option X) → option_map (λ x. g (f x)) o ≡ option_map g (option_map f o)
 map_twice f g None = refl
 map_twice f g (Some x) = refl
 
 -- the users, by those of their rows that stand first
-pub users_found : (rows sorted firsts : List UserRow)
-    → ((name : List ℕ) → filter (λ (row : UserRow). bytes_eq row.name.now name) sorted ≡ filter (λ (row : UserRow). bytes_eq row.name.now name) rows)
-    → AreFirsts (λ (row : UserRow). row.name.now) sorted firsts
+pub users_found : (rows firsts : List UserRow) → AreFirsts (λ (row : UserRow). row.name.now) rows firsts
     → (name : List ℕ) → find (λ (user : KnownAccount). bytes_eq user.name name) (map (λ (row : UserRow). account_of (view_user row)) firsts)
     ≡ option_map account_of (find (λ (row : text.UserRow). bytes_eq row.name name) (map view_user rows))
-users_found rows sorted firsts kept are name =
+users_found rows firsts are name =
     let has : UserRow → Bool = λ row. bytes_eq row.name.now name in
     find-map (λ (row : UserRow). account_of (view_user row)) (λ (user : KnownAccount). bytes_eq user.name name) firsts
-    ∙ ap (option_map (λ (row : UserRow). account_of (view_user row))) (are.found name ∙ find_stays has rows sorted (kept name))
+    ∙ ap (option_map (λ (row : UserRow). account_of (view_user row))) (are.found name)
     ∙ map_twice view_user account_of (find has rows)
     ∙ ap (option_map account_of) (sym (find-map view_user (λ (row : text.UserRow). bytes_eq row.name name) rows))
 
 -- the groups, by those of their rows that stand first
-pub groups_found : (rows sorted firsts : List GroupRow)
-    → ((name : List ℕ) → filter (λ (row : GroupRow). bytes_eq row.name.now name) sorted ≡ filter (λ (row : GroupRow). bytes_eq row.name.now name) rows)
-    → AreFirsts (λ (row : GroupRow). row.name.now) sorted firsts
+pub groups_found : (rows firsts : List GroupRow) → AreFirsts (λ (row : GroupRow). row.name.now) rows firsts
     → (name : List ℕ) → find (λ (group : KnownAccountGroup). bytes_eq group.name name) (map (λ (row : GroupRow). group_of (view_group row)) firsts)
     ≡ option_map group_of (find (λ (row : text.GroupRow). bytes_eq row.name name) (map view_group rows))
-groups_found rows sorted firsts kept are name =
+groups_found rows firsts are name =
     let has : GroupRow → Bool = λ row. bytes_eq row.name.now name in
     find-map (λ (row : GroupRow). group_of (view_group row)) (λ (group : KnownAccountGroup). bytes_eq group.name name) firsts
-    ∙ ap (option_map (λ (row : GroupRow). group_of (view_group row))) (are.found name ∙ find_stays has rows sorted (kept name))
+    ∙ ap (option_map (λ (row : GroupRow). group_of (view_group row))) (are.found name)
     ∙ map_twice view_group group_of (find has rows)
     ∙ ap (option_map group_of) (sym (find-map view_group (λ (row : text.GroupRow). bytes_eq row.name name) rows))
 

@@ -1,6 +1,6 @@
 //! The users and groups of a host.
 
-ghost use Rattle.std.specs.Prelude.{◌≡◌, ◌≢◌, map, IfErr, IfOk, IfSome, IsOk, Err, Some};
+ghost use Rattle.std.specs.Prelude.{◌≡◌, ◌≢◌, ℕ, List, map, IfErr, IfOk, IfSome, IsOk, Err, Some};
 ghost use Rattle.std.specs.Prelude.{bytes_eq, find, option_map};
 ghost use Rattle.std.specs.Cmp.Lexicographic.{slice_cmp};
 ghost use Rattle.std.specs.List.{position};
@@ -18,19 +18,18 @@ ghost use Rattle.acl_accounts.specs.declared.fault.AccountsFault.TheVariants.{Me
 use crate::account::Account;
 use crate::fault::AccountsFault;
 use crate::group::AccountGroup;
-use crate::guesses::{find_by_hash, guesses_of, place_by_hash};
+use crate::guesses::{find_by_hash, place_by_hash};
+use crate::index::Index;
 use crate::limits::MAX_ACCOUNTS_TEXT;
 use crate::members::number_alone;
-use crate::memberships::memberships_of;
-use crate::named::{first_of_each, sort_by_name};
-use crate::places::{find_by_id, places_by_id};
+use crate::named::firsts_by_name;
+use crate::places::find_by_id;
 use crate::requesters::requesters_of;
 use crate::rows::{GroupRow, Rows, UserRow, read_rows};
 use crate::written::WrittenAccount;
 use acl_names::{Gid, NameFault, Requester, ResolveNames, Uid, read_decimal_until};
 use arrayvec::ArrayVec;
 use std::alloc::{AllocError, Global};
-use std::collections::HashMap;
 use std::marker::Model;
 
 /// The users and groups of a host, sorted by name.
@@ -40,14 +39,10 @@ pub struct Accounts {
     groups: Vec<AccountGroup>,
     /// Each user as a requester, in the order of the users.
     requesters: Vec<Requester>,
-    /// Guesses of the users' places by their names.
-    user_guesses: Vec<u32>,
-    /// Guesses of the groups' places by their names.
-    group_guesses: Vec<u32>,
-    /// The place of the first user with each uid.
-    user_places: HashMap<u32, usize>,
-    /// The place of the first group with each gid.
-    group_places: HashMap<u32, usize>,
+    /// Where the users are, by name and by uid.
+    user_index: Index,
+    /// Where the groups are, by name and by gid.
+    group_index: Index,
 }
 
 impl Model for Accounts {
@@ -69,7 +64,7 @@ impl Model for Accounts {
           groups = inside.groups.items;
           requesters = inside.requesters.items;
         })
-        (get nat_eq inside.user_places) (get nat_eq inside.group_places) };
+        (get nat_eq inside.user_index.places) (get nat_eq inside.group_index.places) };
 }
 
 impl Accounts {
@@ -88,10 +83,8 @@ impl Accounts {
             return Err(AccountsFault::TooMany);
         }
         let rows = read_rows(alloc, text)?;
-        // In the order of the file, which `from_rows` changes.
-        let groups = Vec::from_slice(alloc, &rows.groups)?;
-        let accounts = Accounts::from_rows(alloc, rows)?;
-        match accounts.first_cut(&groups) {
+        let accounts = Accounts::from_rows(alloc, &rows)?;
+        match accounts.first_cut(&rows.groups) {
             Some(line) => Err(AccountsFault::BadAccount(line)),
             None => Ok(accounts),
         }
@@ -115,33 +108,20 @@ impl Accounts {
         }
     }
 
-    fn from_rows(alloc: Global, rows: Rows<'_>) -> Result<Accounts, AllocError>
-        ensures { IfOk result (λ accounts. AreOf (view_rows rows.entry) accounts) }
+    fn from_rows(alloc: Global, rows: &Rows<'_>) -> Result<Accounts, AllocError>
+        ensures { IfOk result (λ accounts. AreOf (view_rows rows.now) accounts) }
     {
-        let Rows {
-            mut users,
-            mut groups,
-        } = rows;
-        let memberships = memberships_of(alloc, &groups)?;
-        sort_by_name(&mut users)?;
-        sort_by_name(&mut groups)?;
-        let first_users = first_of_each(alloc, &users)?;
-        let first_groups = first_of_each(alloc, &groups)?;
-        let users = accounts_of(alloc, &first_users)?;
-        let groups = groups_of(alloc, &first_groups)?;
-        let requesters = requesters_of(alloc, &users, &memberships)?;
-        let user_guesses = guesses_of(alloc, &users)?;
-        let group_guesses = guesses_of(alloc, &groups)?;
-        let user_places = places_by_id(alloc, &users)?;
-        let group_places = places_by_id(alloc, &groups)?;
+        let users = users_by_name(alloc, &rows.users)?;
+        let groups = groups_by_name(alloc, &rows.groups)?;
+        let requesters = requesters_of(alloc, &users, &rows.groups)?;
+        let user_index = Index::new(alloc, &users)?;
+        let group_index = Index::new(alloc, &groups)?;
         Ok(Accounts {
             users,
             groups,
             requesters,
-            user_guesses,
-            group_guesses,
-            user_places,
-            group_places,
+            user_index,
+            group_index,
         })
     }
 
@@ -178,7 +158,7 @@ impl Accounts {
         ensures { result ≡ place_of_written self.now (view_written written.entry) }
     {
         match written {
-            WrittenAccount::Number(number) => self.user_places.get(&number).copied(),
+            WrittenAccount::Number(number) => self.user_index.places.get(&number).copied(),
             WrittenAccount::Name(name) => self.place_of_name(name),
         }
     }
@@ -186,14 +166,14 @@ impl Accounts {
     fn place_of_name(&self, name: &[u8]) -> Option<usize>
         ensures { result ≡ position (λ user. bytes_eq user.name name.now) self.now.users }
     {
-        place_by_hash(&self.users, &self.user_guesses, name)
+        place_by_hash(&self.users, &self.user_index.guesses, name)
     }
 
     /// The user of this name.
     pub fn user(&self, name: &[u8]) -> Option<&Account>
         ensures { option_copied result ≡ account_named self.now name.now }
     {
-        find_by_hash(&self.users, &self.user_guesses, name)
+        find_by_hash(&self.users, &self.user_index.guesses, name)
     }
 
     /// The uid of the user with this name.
@@ -210,7 +190,7 @@ impl Accounts {
     pub fn gid_of(&self, name: &[u8]) -> Option<Gid>
         ensures { result ≡ gid_of self.now name.now }
     {
-        match find_by_hash(&self.groups, &self.group_guesses, name) {
+        match find_by_hash(&self.groups, &self.group_index.guesses, name) {
             Some(group) => Some(group.gid),
             None => None,
         }
@@ -243,7 +223,7 @@ impl Accounts {
         ensures name { option_map (λ name. name.now) result ≡ user_name self.now uid }
         ensures again { IfSome result (λ name. uid_of self.now name.now ≡ Some uid) }
     {
-        match find_by_id(&self.users, &self.user_places, uid.value()) {
+        match find_by_id(&self.users, &self.user_index.places, uid.value()) {
             Some(user) => Some(user.name()),
             None => None,
         }
@@ -254,7 +234,7 @@ impl Accounts {
         ensures name { option_map (λ name. name.now) result ≡ group_name self.now gid }
         ensures again { IfSome result (λ name. gid_of self.now name.now ≡ Some gid) }
     {
-        match find_by_id(&self.groups, &self.group_places, gid.value()) {
+        match find_by_id(&self.groups, &self.group_index.places, gid.value()) {
             Some(group) => Some(group.name()),
             None => None,
         }
@@ -292,7 +272,31 @@ impl ResolveNames for Accounts {
     }
 }
 
-/// The users of these rows.
+/// The users of these rows, sorted by name. Of rows with the same name, the first counts.
+fn users_by_name(alloc: Global, rows: &[UserRow<'_>]) -> Result<Vec<Account>, AllocError>
+    ensures order { IfOk result (λ users. IsAscending (slice_cmp nat_cmp) (λ user. user.name)
+        users.items) }
+    ensures found { IfOk result (λ users. (name : List ℕ)
+        → find (λ user. bytes_eq user.name name) users.items
+        ≡ option_map account_of (find (λ row. bytes_eq row.name name) (map view_user rows.now))) }
+{
+    let firsts = firsts_by_name(alloc, rows)?;
+    accounts_of(alloc, &firsts)
+}
+
+/// The groups of these rows, sorted by name. Of rows with the same name, the first counts.
+fn groups_by_name(alloc: Global, rows: &[GroupRow<'_>]) -> Result<Vec<AccountGroup>, AllocError>
+    ensures order { IfOk result (λ groups. IsAscending (slice_cmp nat_cmp) (λ group. group.name)
+        groups.items) }
+    ensures found { IfOk result (λ groups. (name : List ℕ)
+        → find (λ group. bytes_eq group.name name) groups.items
+        ≡ option_map group_of (find (λ row. bytes_eq row.name name) (map view_group rows.now))) }
+{
+    let firsts = firsts_by_name(alloc, rows)?;
+    groups_of(alloc, &firsts)
+}
+
+/// The users of these rows, in the order of the rows.
 fn accounts_of(alloc: Global, rows: &[UserRow<'_>]) -> Result<Vec<Account>, AllocError>
     ensures { IfOk result (λ users. users.items ≡ map (λ row. account_of (view_user row)) rows.now) }
 {
@@ -308,7 +312,7 @@ fn accounts_of(alloc: Global, rows: &[UserRow<'_>]) -> Result<Vec<Account>, Allo
     Ok(users)
 }
 
-/// The groups of these rows.
+/// The groups of these rows, in the order of the rows.
 fn groups_of(alloc: Global, rows: &[GroupRow<'_>]) -> Result<Vec<AccountGroup>, AllocError>
     ensures { IfOk result (λ groups. groups.items ≡ map (λ row. group_of (view_group row)) rows.now) }
 {

@@ -7,6 +7,7 @@ mod accounts;
 mod fault;
 mod group;
 mod guesses;
+mod index;
 mod laws;
 mod limits;
 mod members;

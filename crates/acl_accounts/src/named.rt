@@ -84,11 +84,20 @@ pub(crate) fn sort_by_name<T: Named>(members: &mut Vec<T>) -> Result<(), AllocEr
     members.sort_by(|one, other| one.key().cmp(other.key()))
 }
 
-/// The first member of each name. `members` must be sorted by name.
-pub(crate) fn first_of_each<T: Named + Copy + Drop>(
+/// The first member of each name, sorted by name.
+pub(crate) fn firsts_by_name<T: Named + Copy + Drop>(
     alloc: Global,
     members: &[T],
 ) -> Result<Vec<T>, AllocError>
+    ensures { IfOk result (λ firsts. AreFirsts T.name_of members.now firsts.items) }
+{
+    let mut sorted = Vec::from_slice(alloc, members)?;
+    sort_by_name(&mut sorted)?;
+    first_of_each(alloc, &sorted)
+}
+
+/// The first member of each name. `members` must be sorted by name.
+fn first_of_each<T: Named + Copy + Drop>(alloc: Global, members: &[T]) -> Result<Vec<T>, AllocError>
     requires { IsSortedByKey T.name_of (slice_cmp nat_cmp) members.now }
     ensures { IfOk result (λ firsts. AreFirsts T.name_of members.now firsts.items) }
 {

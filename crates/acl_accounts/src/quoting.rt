@@ -31,6 +31,12 @@ pub fn push_name(name: &[u8], out: &mut Vec<u8>) -> Result<(), AllocError>
         else named name.now) }
     ensures one_word { list_any splits (quoted name.now) ≡ false }
 {
+    push_quoted(name, out)
+}
+
+fn push_quoted(name: &[u8], out: &mut Vec<u8>) -> Result<(), AllocError>
+    ensures { Pushes (quoted name.now) result out.old out.new }
+{
     for byte in name {
         push_byte(*byte, out)?;
     }

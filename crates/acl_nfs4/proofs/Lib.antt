@@ -29,6 +29,7 @@ pub mod EvaluationMode
 pub mod EvaluationLemmas
 pub mod MaskLemmas
 pub mod FrontLemmas
+pub mod PrintedFronts
 pub mod PrintedLengths
 pub mod NamedLemmas
 pub mod NamedAgain

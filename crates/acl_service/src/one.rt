@@ -1,10 +1,12 @@
 //! One session on one thread.
-ghost use Rattle.std.specs.Prelude.{◌≡◌, ◌≤◌, ◌++◌, length, IfOk, IsErrOf, OnOk};
+ghost use Rattle.std.specs.Prelude.{◌≡◌, ◌<◌, ◌≤◌, ◌++◌, [], length, IfOk, IsErrOf, OnOk};
+ghost use Rattle.std.specs.Bool.{MatchBool};
 ghost use Rattle.std.specs.Io.KnownBytes.{Appends, Keeps};
 ghost use Rattle.acl_lang.specs.Texts.{requests_of};
 ghost use Rattle.acl_cli.specs.Output.{AppendsFront};
-ghost use Rattle.acl_lang.specs.Printed.{answer_text};
-ghost use Rattle.acl_service.specs.Runs.{answer_to, session_text, tree_after, tree_after_one};
+ghost use Rattle.acl_lang.specs.Printed.{answer_text, answers_text};
+ghost use Rattle.acl_service.specs.Runs.{answer_to, answers_of, session_text, tree_after};
+ghost use Rattle.acl_service.specs.Runs.{tree_after_one};
 
 use acl_cli::write_text;
 use acl_lang::{Answer, MAX_TEXT_LEN, Numbered, Requests, render, render_node};
@@ -40,10 +42,35 @@ fn answer_lines(
 {
     printed.reserve(text.len().saturating_mul(2))?;
     let mut requests = Requests::new(text, directory);
-    while let Some(numbered) = requests.next(alloc)? {
-        answer_one(alloc, directory, tree, &numbered, printed)?;
-    }
+    while answer_next(alloc, directory, tree, &mut requests, printed)? {}
     Ok(())
+}
+
+/// Applies the next request, and prints its answer. Returns whether there was one.
+fn answer_next(
+    alloc: Global,
+    directory: &Directory,
+    tree: &mut Tree,
+    requests: &mut Requests<'_>,
+    printed: &mut Vec<u8>,
+) -> Result<bool, AllocError>
+    // What is printed and what is still to come are the same text together.
+    ensures text { OnOk result (printed.new.items
+        ++ answers_text directory.now (answers_of directory.now tree.new requests.new)
+        ≡ printed.old.items
+        ++ answers_text directory.now (answers_of directory.now tree.old requests.old)) }
+    ensures tree { OnOk result (tree_after directory.now tree.new requests.new
+        ≡ tree_after directory.now tree.old requests.old) }
+    ensures rest { IfOk result (λ some. MatchBool some
+        (length requests.new < length requests.old) (requests.new ≡ [])) }
+{
+    match requests.next(alloc)? {
+        Some(numbered) => {
+            answer_one(alloc, directory, tree, &numbered, printed)?;
+            Ok(true)
+        }
+        None => Ok(false),
+    }
 }
 
 /// Applies a request, and prints its answer. A node that is requested is printed without a copy.
@@ -86,10 +113,29 @@ pub fn apply_text(
         (requests_of directory.now text.now)) }
 {
     let mut requests = Requests::new(text, directory);
-    while let Some(numbered) = requests.next(alloc)? {
-        tree.apply(alloc, &numbered.request, directory)?;
-    }
+    while apply_next(alloc, directory, tree, &mut requests)? {}
     Ok(())
+}
+
+/// Applies the next request, and drops its answer. Returns whether there was one.
+fn apply_next(
+    alloc: Global,
+    directory: &Directory,
+    tree: &mut Tree,
+    requests: &mut Requests<'_>,
+) -> Result<bool, AllocError>
+    ensures tree { OnOk result (tree_after directory.now tree.new requests.new
+        ≡ tree_after directory.now tree.old requests.old) }
+    ensures rest { IfOk result (λ some. MatchBool some
+        (length requests.new < length requests.old) (requests.new ≡ [])) }
+{
+    match requests.next(alloc)? {
+        Some(numbered) => {
+            tree.apply(alloc, &numbered.request, directory)?;
+            Ok(true)
+        }
+        None => Ok(false),
+    }
 }
 
 /// Applies the commands of a text to the tree, line by line, and returns the tree that they leave.

@@ -2,7 +2,6 @@
 ghost use Rattle.std.specs.Prelude.{◌≡◌, IfOk};
 
 use super::Tree;
-use indexmap::IndexMap;
 use std::alloc::{AllocError, Global};
 
 impl Tree {
@@ -11,10 +10,7 @@ impl Tree {
         ensures { IfOk result (λ clone. clone ≡ self.now) }
     {
         let entries = self.entries(alloc)?;
-        let mut clone = Tree {
-            umask: self.umask,
-            nodes: IndexMap::new(alloc),
-        };
+        let mut clone = Tree::without_nodes(alloc, self.umask);
         // From the last path to the first, as the finite map of a list is built from its end.
         for copied in 0..entries.len() {
             let (path, node) = entries[entries.len() - 1 - copied];

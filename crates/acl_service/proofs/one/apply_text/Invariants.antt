@@ -4,8 +4,8 @@ use Rattle.acl_service.specs.Runs.{tree_after}
 use Rattle.acl_service.proofs.one.apply_text.Given as goal
 
 -- what the requests that are left leave, all of them leave
-abbrev pub invariant-loop-numbered : goal.invariant-loop-numbered
-invariant-loop-numbered l = tree_after l.directory l.tree l.requests ≡ tree_after l.directory l.fn.tree (requests_of l.directory l.text)
+abbrev pub invariant-loop : goal.invariant-loop
+invariant-loop l = tree_after l.directory l.tree l.requests ≡ tree_after l.directory l.fn.tree (requests_of l.directory l.text)
 
-abbrev pub decreases-loop-numbered : goal.decreases-loop-numbered
-decreases-loop-numbered l = length l.requests
+abbrev pub decreases-loop : goal.decreases-loop
+decreases-loop l = length l.requests

@@ -1,6 +1,6 @@
 use Rattle.std.proofs.Common.{◌≡◌, ◌++◌, take, length}
 use Rattle.acl_accounts.specs.Names.{quoted}
-use Rattle.acl_accounts.proofs.quoting.push_name.Given as goal
+use Rattle.acl_accounts.proofs.quoting.push_quoted.Given as goal
 
 -- what was printed is the bytes so far
 abbrev pub invariant-loop-byte : goal.invariant-loop-byte
