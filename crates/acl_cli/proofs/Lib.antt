@@ -2,6 +2,7 @@ pub mod OutputLemmas
 pub mod ErrorLemmas
 pub mod LineLemmas
 pub mod CommandLemmas
+pub mod TipLemmas
 pub mod FailureLemmas
 pub mod FieldLemmas
 pub mod SessionFileLemmas

@@ -7,6 +7,7 @@ pub mod Refusals
 pub mod Faults
 pub mod Failures
 pub mod Usage
+pub mod Tips
 pub mod Fields
 pub mod SessionFiles
 pub mod Commands

@@ -1,5 +1,5 @@
 //! Standard error, on which faults are reported.
-ghost use Rattle.std.specs.Prelude.{◌≡◌, ◌++◌, false, option_map};
+ghost use Rattle.std.specs.Prelude.{◌≡◌, ◌++◌, false, option_map, true};
 ghost use Rattle.acl_names.specs.Shown.{shown, shown_byte};
 ghost use Rattle.acl_cli.specs.ErrorOutput.{Reports, line_of_words};
 ghost use Rattle.acl_cli.specs.Refusals.{line_words, refused_words, text_words};
@@ -151,8 +151,10 @@ impl<W: Write + Drop> ErrorOutput<W> {
     }
 
     /// Writes a value as it is displayed, such as the parser's own text. No clause says what is
-    /// written.
-    pub(crate) fn write_displayed<D: Display + Drop>(&mut self, value: D) {
+    /// written; after a failed write nothing is.
+    pub(crate) fn write_displayed<D: Display + Drop>(&mut self, value: D)
+        ensures { self.old.has_failed ≡ true → self.new ≡ self.old }
+    {
         if !self.has_failed {
             self.has_failed = write!(self.inner, "{value}").is_err();
         }
