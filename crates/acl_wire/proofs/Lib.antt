@@ -27,6 +27,7 @@ pub mod PartsLemmas
 pub mod NobodyLemmas
 pub mod XdrLoop
 pub mod XdrRawsLoop
+pub mod XdrDraftLoop
 pub mod KeptLoop
 pub mod XdrKeptAgain
 pub mod PlacesLoop

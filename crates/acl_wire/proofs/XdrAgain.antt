@@ -44,20 +44,22 @@ text_again text rest lt =
     let behind : drop (padded n) (filled text ++ rest) ≡ rest = drop_at (filled text) rest (padded n) size in
     rw (number_again n (filled text ++ rest) lt, long, front, behind) refl
 
--- a decimal is none of the three
-not_special : (id : ℕ) (word : List ℕ) → id ≤ MAX_ID → decimal_value (decimal id) ≡ Some id → decimal_value word ≡ None → bytes_eq (decimal id) word ≡ false
-not_special id word small is none = elim (cases_Bool (bytes_eq (decimal id) word)) [
+-- an id is none of the three
+not_special : (text word : List ℕ) (id : ℕ) → decimal_value text ≡ Some id → decimal_value word ≡ None → bytes_eq text word ≡ false
+not_special text word id is none = elim (cases_Bool (bytes_eq text word)) [
   | inl same ↦
-      let equal : decimal id ≡ word = (bytes_eq-Decides (decimal id) word).0 same in
+      let equal : text ≡ word = (bytes_eq-Decides text word).0 same in
       let wrong : Some id ≡ None = sym is ∙ ap decimal_value equal ∙ none in
       cc
   | inr other ↦ other
 ]
 
+pub id_first : (text : List ℕ) (id : ℕ) → decimal_value text ≡ Some id → who_in text ≡ Ok (0, id)
+id_first text id is =
+    rw (not_special text (codes "OWNER@") id is refl, not_special text (codes "GROUP@") id is refl, not_special text (codes "EVERYONE@") id is refl, is) refl
+
 id_again : (id : ℕ) → id ≤ MAX_ID → who_in (decimal id) ≡ Ok (0, id)
-id_again id small =
-    let is : decimal_value (decimal id) ≡ Some id = decimal_read id small in
-    rw (not_special id (codes "OWNER@") small is refl, not_special id (codes "GROUP@") small is refl, not_special id (codes "EVERYONE@") small is refl, is) refl
+id_again id small = id_first (decimal id) id (decimal_read id small)
 
 pub who_again : (who : Who) → HasId who → who_in (who_text who) ≡ Ok (special_number who, id_of who)
 who_again Owner has = refl

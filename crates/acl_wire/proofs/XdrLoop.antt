@@ -11,12 +11,16 @@ use Rattle.acl_wire.specs.declared.fault.Nfs4Fault.{Nfs4Fault}
 use Rattle.acl_wire.specs.declared.raw_ace.RawAce.{RawAce}
 
 -- what was read before, and what is still read
-abbrev pub with_front : List Nfsace4 → Result (List Nfsace4 × List ℕ) Nfs4Fault → Result (List Nfsace4 × List ℕ) Nfs4Fault
+abbrev pub with_front : {A : Type 0} → List A → Result (List A × List ℕ) Nfs4Fault → Result (List A × List ℕ) Nfs4Fault
 with_front front read = read >>= λ x. Ok (front ++ x.0, x.1)
 
-regroup : (front : List Nfsace4) (ace : Nfsace4) (read : Result (List Nfsace4 × List ℕ) Nfs4Fault) → with_front front (read >>= λ x. Ok (ace ∷ x.0, x.1)) ≡ with_front (front ++ ace ∷ []) read
-regroup front ace (Ok x) = ap (λ (aces : List Nfsace4). Ok (aces, x.1)) (simp append_assoc)
-regroup front ace (Err fault) = refl
+pub regroup : {A : Type 0} (front : List A) (one : A) (read : Result (List A × List ℕ) Nfs4Fault) → with_front front (read >>= λ x. Ok (one ∷ x.0, x.1)) ≡ with_front (front ++ one ∷ []) read
+regroup {A} front one (Ok x) = ap (λ (all : List A). Ok (all, x.1)) (simp append_assoc)
+regroup front one (Err fault) = refl
+
+pub in_front : {A : Type 0} (front : List A) (read : Result (List A × List ℕ) Nfs4Fault) → front ≡ [] → with_front front read ≡ read
+in_front {A} front (Ok x) none = ap (λ (all : List A). Ok (all ++ x.0, x.1)) none
+in_front front (Err fault) none = refl
 
 module _ (front : List Nfsace4) (count i : ℕ) (rest bytes : List ℕ) (so_far : with_front front (aces_at (count - i) rest) ≡ aces_at count bytes) where
   module _ (lt : i < count) where

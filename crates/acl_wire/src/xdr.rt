@@ -1,6 +1,7 @@
 //! NFSv4 lists in XDR (RFC 4506): the bytes of the extended attribute `system.nfs4_acl`.
 
-ghost use Rattle.std.specs.Prelude.{◌≡◌, ◌≢◌, ◌≤◌, IfErr, IfOk, length};
+ghost use Rattle.std.specs.Prelude.{◌≡◌, ◌≢◌, ◌≤◌, IfErr, IfOk, None, length};
+ghost use Rattle.acl_names.specs.Ids.{decimal_value};
 ghost use Rattle.acl_nfs4.specs.declared.limits.TheConstants.{INLINE_ACES, MAX_ACES};
 ghost use Rattle.acl_wire.specs.Numbers.{Reads};
 ghost use Rattle.acl_wire.specs.RawAces.{Answers};
@@ -51,9 +52,10 @@ pub(crate) fn text_at(bytes: &[u8]) -> Result<(&[u8], &[u8]), Nfs4Fault>
     Ok((&rest[..len], &rest[room..]))
 }
 
-/// What a who stands for: one of the three, or the id in decimal.
-pub(crate) fn who_in(text: &[u8]) -> Result<(u32, u32), Nfs4Fault>
-    ensures { result ≡ who_in text.now }
+/// Which of the three special identifiers the text is, if it is no id.
+#[inline(never)]
+fn special_in(text: &[u8]) -> Result<(u32, u32), Nfs4Fault>
+    ensures { decimal_value text.now ≡ None → result ≡ who_in text.now }
 {
     if text == b"OWNER@".as_slice() {
         Ok((1, 0))
@@ -62,14 +64,24 @@ pub(crate) fn who_in(text: &[u8]) -> Result<(u32, u32), Nfs4Fault>
     } else if text == b"EVERYONE@".as_slice() {
         Ok((3, 0))
     } else {
-        match read_decimal(text) {
-            Some(id) => Ok((0, id)),
-            None => Err(Nfs4Fault::UnknownName),
-        }
+        Err(Nfs4Fault::UnknownName)
+    }
+}
+
+/// What a who stands for: one of the three, or the id in decimal. Ids come first: most entries of
+/// long lists have one.
+#[inline(always)]
+pub(crate) fn who_in(text: &[u8]) -> Result<(u32, u32), Nfs4Fault>
+    ensures { result ≡ who_in text.now }
+{
+    match read_decimal(text) {
+        Some(id) => Ok((0, id)),
+        None => special_in(text),
     }
 }
 
 /// The entry that the bytes begin with, and what stands behind it.
+#[inline(always)]
 #[tactic(auto, unfolding(crate::specs::Xdr::raw_at))]
 pub(crate) fn raw_at(bytes: &[u8]) -> Result<(RawAce, &[u8]), Nfs4Fault>
     ensures { Reads (λ x. (x.0, x.1.now)) result (raw_at bytes.now) }

@@ -1,14 +1,55 @@
 //! Lists in XDR (RFC 4506) as entries of numbers in a caller's buffer, with all bits that have a
-//! meaning. It takes no memory: the bytes are read once to know that they are a list, and once more
-//! to put it.
+//! meaning. It takes no memory: up to 16 entries are read into a list on the stack and copied from
+//! there. The bytes of more are read once to know that they are a list, and once more to put it.
 
-ghost use Rattle.std.specs.Prelude.{◌≡◌, ◌≤◌, ◌++◌, ℕ, List, Ok, drop, length};
+ghost use Rattle.std.specs.Prelude.{◌≡◌, ◌≤◌, ◌++◌, ℕ, List, [], Ok, drop, length};
+ghost use Rattle.acl_nfs4.specs.declared.limits.TheConstants.{INLINE_ACES};
+ghost use Rattle.acl_wire.specs.Numbers.{Reads};
 ghost use Rattle.acl_wire.specs.XdrRaws.{PutsItems, fault_in, raws_at, whole, xdr_raws_of};
 ghost use Rattle.acl_wire.specs.declared.raw_ace.RawAce.{RawAce as Raw};
 
+use crate::draft::write_raws;
 use crate::raw_ace::{tidied, value_of};
 use crate::xdr::{number_at, raw_at};
 use crate::{Nfs4Fault, RawAce};
+use acl_nfs4::INLINE_ACES;
+use arrayvec::ArrayVec;
+
+/// As many entries as are stored inline. They take no memory.
+type FewRaws = ArrayVec<RawAce, INLINE_ACES>;
+
+/// Reads so many entries, which are to be all of the bytes.
+fn read_raws(count: u32, bytes: &[u8], draft: &mut FewRaws) -> Result<(), Nfs4Fault>
+    requires empty { draft.old.items ≡ [] }
+    requires few { count ≤ INLINE_ACES }
+    ensures { Reads (λ _. draft.new.items) result (whole (raws_at count bytes.now)) }
+{
+    let mut rest = bytes;
+    for _ in 0..count {
+        let (raw, behind) = raw_at(rest)?;
+        if let Err(refused) = value_of(&raw) {
+            return Err(refused);
+        }
+        draft.push(tidied(&raw));
+        rest = behind;
+    }
+    if rest.is_empty() {
+        Ok(())
+    } else {
+        Err(Nfs4Fault::Size)
+    }
+}
+
+/// Puts few entries, which are read once.
+#[inline(never)]
+fn put_few(count: u32, bytes: &[u8], out: &mut [RawAce]) -> Result<usize, Nfs4Fault>
+    requires { count ≤ INLINE_ACES }
+    ensures { PutsItems (whole (raws_at count bytes.now)) result out.old out.new }
+{
+    let mut draft = FewRaws::new();
+    read_raws(count, bytes, &mut draft)?;
+    Ok(write_raws(draft.as_slice(), out))
+}
 
 /// What is wrong with so many entries, which are to be all of the bytes.
 fn fault_of(count: u32, bytes: &[u8]) -> Option<Nfs4Fault>
@@ -48,6 +89,20 @@ fn put_raws(count: usize, bytes: &[u8], out: &mut [RawAce])
     }
 }
 
+/// Puts any number of entries, which are read twice.
+fn put_many(count: u32, bytes: &[u8], out: &mut [RawAce]) -> Result<usize, Nfs4Fault>
+    ensures { PutsItems (whole (raws_at count bytes.now)) result out.old out.new }
+{
+    if let Some(fault) = fault_of(count, bytes) {
+        return Err(fault);
+    }
+    let count = count as usize;
+    if count <= out.len() {
+        put_raws(count, bytes, out);
+    }
+    Ok(count)
+}
+
 /// Puts the entries of a list in XDR in front of `out`, if it has room for all, and else leaves
 /// `out` as it was. The answer is how many entries the list has, or why the bytes are none.
 ///
@@ -58,12 +113,9 @@ pub fn put_xdr_raws(bytes: &[u8], out: &mut [RawAce]) -> Result<usize, Nfs4Fault
     ensures { PutsItems (xdr_raws_of bytes.now) result out.old out.new }
 {
     let (count, rest) = number_at(bytes)?;
-    if let Some(fault) = fault_of(count, rest) {
-        return Err(fault);
+    if count <= INLINE_ACES as u32 {
+        put_few(count, rest, out)
+    } else {
+        put_many(count, rest, out)
     }
-    let count = count as usize;
-    if count <= out.len() {
-        put_raws(count, rest, out);
-    }
-    Ok(count)
 }
