@@ -1,4 +1,5 @@
 pub mod DeletionLemmas
 pub mod EffectLemmas
 pub mod FoundLemmas
+pub mod FromDefaultLemmas
 pub mod LintLemmas

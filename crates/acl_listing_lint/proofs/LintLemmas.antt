@@ -18,29 +18,29 @@ use Rattle.acl_listings.specs.declared.fault.FileFault.TheVariants.{Block as OfB
 use Rattle.acl_people.specs.Host.{names_of_host}
 use Rattle.acl_reports.specs.Listed.{IsSaid, Item, Part, closing, ending_of, fault_in, first_guess, is_fault, is_unread, no_blocks, reported, reported_of, tally_with, with_item}
 use Rattle.acl_reports.specs.declared.tally.Tally.{Tally}
-use Rattle.acl_listing_lint.specs.Findings.{IsPartBy, IsPartOf, LintAsking, pending_behind}
+use Rattle.acl_listing_lint.specs.Findings.{IsPartBy, IsPartOf, LintAsking, seen_behind}
 use Rattle.acl_listing_lint.specs.LintSteps.{AreReported, EndsBy, EndsSo, IsBegun, IsBegunBy, IsBlockDone, IsBlockReported, IsRefusalSaid, IsReported, IsReportedBy, Left}
-use Rattle.acl_listing_lint.specs.Pending.{Pending, pending_after}
+use Rattle.acl_listing_lint.specs.Seen.{Seen, nothing_seen, seen_after}
 use Rattle.acl_listing_lint.specs.Lints.{AnswersLints, AreBegun, AreItems, BeginsLints, IsAnswer}
 
 -- whatever is found in a block, the same is wrong with it
-fault_same : (asking : LintAsking) (pending : Option Pending) (block : Block) (read : Result FileValue BlockFault) (part other : Part)
-    → IsPartBy asking pending block read part → IsPartBy asking pending block read other → fault_in part ≡ fault_in other
-fault_same asking pending block (Ok file) part other (text, found, is) (more, others, same) = ap fault_in is ∙ sym (ap fault_in same)
-fault_same asking pending block (Err fault) part other is same = ap fault_in is ∙ sym (ap fault_in same)
+fault_same : (asking : LintAsking) (seen : Seen) (block : Block) (read : Result FileValue BlockFault) (part other : Part)
+    → IsPartBy asking seen block read part → IsPartBy asking seen block read other → fault_in part ≡ fault_in other
+fault_same asking seen block (Ok file) part other (text, found, is) (more, others, same) = ap fault_in is ∙ sym (ap fault_in same)
+fault_same asking seen block (Err fault) part other is same = ap fault_in is ∙ sym (ap fault_in same)
 
-module _ (asking : LintAsking) (pending : Option Pending) (tally : Tally) (block : Block) (part : Part) (part_is : IsPartOf asking pending block part) where
+module _ (asking : LintAsking) (seen : Seen) (tally : Tally) (block : Block) (part : Part) (part_is : IsPartOf asking seen block part) where
   abbrev item : Item
   item = record { block = block; part = part }
 
-  abbrev standing : Option Pending → Tally → Option (List Block) → Left
-  standing pending tally coming = record { asking = asking; pending = pending; tally = tally; closed = false; coming = coming }
+  abbrev standing : Seen → Tally → Option (List Block) → Left
+  standing seen tally coming = record { asking = asking; seen = seen; tally = tally; closed = false; coming = coming }
 
   abbrev old : Option (List Block) → Left
-  old = standing pending tally
+  old = standing seen tally
 
-  abbrev after : Option Pending
-  after = pending_behind asking pending block
+  abbrev after : Seen
+  after = seen_behind asking seen block
 
   abbrev new : Option (List Block) → Left
   new = standing after (with_item tally item)
@@ -49,7 +49,7 @@ module _ (asking : LintAsking) (pending : Option Pending) (tally : Tally) (block
   Said = IsSaid asking.name (names_of_host asking.host) block part
 
   all_more : (blocks : List Block) (said : List ℕ) → Said said → (rest others : List ℕ) → AreReported asking after (with_item tally item) blocks rest others
-      → AreReported asking pending tally (block ∷ blocks) (reported_of part ++ rest) (said ++ others)
+      → AreReported asking seen tally (block ∷ blocks) (reported_of part ++ rest) (said ++ others)
   all_more blocks said is rest others are = record {
     items = item ∷ are.items;
     items_are = (part, are.items, part_is, are.items_are, refl);
@@ -67,7 +67,7 @@ module _ (asking : LintAsking) (pending : Option Pending) (tally : Tally) (block
       subst (λ blocks. IsReportedBy false (old (Some blocks)) (reported_of part ++ rest) (said ++ others)) (sym hands) (all_more left said is rest others reports)
 
   first_more : (blocks : List Block) (said : List ℕ) → Said said → (rest others : List ℕ) → AreBegun asking after (with_item tally item) blocks rest others
-      → AreBegun asking pending tally (block ∷ blocks) (reported_of part ++ rest) (said ++ others)
+      → AreBegun asking seen tally (block ∷ blocks) (reported_of part ++ rest) (said ++ others)
   first_more blocks said is rest others begun = record {
     first = block ∷ begun.first;
     rest = begun.rest;
@@ -99,10 +99,10 @@ module _ (asking : LintAsking) (pending : Option Pending) (tally : Tally) (block
   }
 
   ends_all : (blocks : List Block) (ending : Ending) → ((items : List Item) → AreItems asking after blocks items → ending ≡ ending_of (tally_with (with_item tally item) items))
-      → (items : List Item) → AreItems asking pending (block ∷ blocks) items → ending ≡ ending_of (tally_with tally items)
+      → (items : List Item) → AreItems asking seen (block ∷ blocks) items → ending ≡ ending_of (tally_with tally items)
   ends_all blocks ending ends items (other, rest, other_is, rest_are, same) =
       ends rest rest_are
-      ∙ ap (λ fault. ending_of (tally_with (counted fault) rest)) (fault_same asking pending block (file_by (names_of_host asking.host) block.text) part other part_is other_is)
+      ∙ ap (λ fault. ending_of (tally_with (counted fault) rest)) (fault_same asking seen block (file_by (names_of_host asking.host) block.text) part other part_is other_is)
       ∙ ap (λ items. ending_of (tally_with tally items)) (sym same)
 
   ends_more : (coming more : Option (List Block)) → HandsOut coming block more → (ending : Ending) → EndsBy false (new more) ending → EndsBy false (old coming) ending
@@ -115,7 +115,7 @@ pub begun_nothing : (left : Left) (closed : Bool) → IsBegunBy closed left [] [
 begun_nothing left true = (refl, refl)
 begun_nothing left false = by left.coming
   where
-    by : (coming : Option (List Block)) → IfSome coming (λ blocks. AreBegun left.asking left.pending left.tally blocks [] [])
+    by : (coming : Option (List Block)) → IfSome coming (λ blocks. AreBegun left.asking left.seen left.tally blocks [] [])
     by None = tt
     by (Some blocks) = record { first = []; rest = blocks; are = refl; items = []; items_are = refl; text_is = refl; said = []; said_are = refl; more_is = inl refl }
 
@@ -125,21 +125,21 @@ pub record IsNext (left next : Left) (block : Block) (out out' beside beside' : 
   pub still : next.closed ≡ false
   pub asking : next.asking ≡ left.asking
   pub hands : HandsOut left.coming block next.coming
-  pub done : IsBlockDone left.asking left.pending next.pending block left.tally next.tally out out' beside beside'
+  pub done : IsBlockDone left.asking left.seen next.seen block left.tally next.tally out out' beside beside'
 
 module _ (left next : Left) (block : Block) (out out' beside beside' : List ℕ) (is : IsNext left next block out out' beside beside') where
   abbrev here : Item
   here = record { block = block; part = is.done.part }
 
-  abbrev then_pending : Option Pending
-  then_pending = pending_behind left.asking left.pending block
+  abbrev then_seen : Seen
+  then_seen = seen_behind left.asking left.seen block
 
-  next_is : next ≡ record { asking = left.asking; pending = then_pending; tally = with_item left.tally here; closed = false; coming = next.coming }
+  next_is : next ≡ record { asking = left.asking; seen = then_seen; tally = with_item left.tally here; closed = false; coming = next.coming }
   next_is =
       ap (λ asking. record next { asking = asking }) is.asking
-      ∙ ap (λ pending. record next { asking = left.asking; pending = pending }) is.done.pending_is
-      ∙ ap (λ tally. record next { asking = left.asking; pending = then_pending; tally = tally }) is.done.done.tally_is
-      ∙ ap (λ closed. record next { asking = left.asking; pending = then_pending; tally = with_item left.tally here; closed = closed }) is.still
+      ∙ ap (λ seen. record next { asking = left.asking; seen = seen }) is.done.seen_is
+      ∙ ap (λ tally. record next { asking = left.asking; seen = then_seen; tally = tally }) is.done.done.tally_is
+      ∙ ap (λ closed. record next { asking = left.asking; seen = then_seen; tally = with_item left.tally here; closed = closed }) is.still
 
   left_is : left ≡ record left { closed = false }
   left_is = ap (λ closed. record left { closed = closed }) is.was_open
@@ -147,19 +147,19 @@ module _ (left next : Left) (block : Block) (out out' beside beside' : List ℕ)
   pub reported_on : LeadsOn (IsReported left) (IsReported next) (reported_of is.done.part) is.done.done.said
   reported_on = λ rest others reports.
       subst (λ (left : Left). IsReportedBy left.closed left (reported_of is.done.part ++ rest) (is.done.done.said ++ others)) (sym left_is)
-      (reported_more left.asking left.pending left.tally block is.done.part is.done.part_is left.coming next.coming is.hands is.done.done.said is.done.done.is_said rest others
+      (reported_more left.asking left.seen left.tally block is.done.part is.done.part_is left.coming next.coming is.hands is.done.done.said is.done.done.is_said rest others
       (subst (λ (next : Left). IsReportedBy next.closed next rest others) next_is reports))
 
   pub begun_on : LeadsOn (IsBegun left) (IsBegun next) (reported_of is.done.part) is.done.done.said
   begun_on = λ rest others begins.
       subst (λ (left : Left). IsBegunBy left.closed left (reported_of is.done.part ++ rest) (is.done.done.said ++ others)) (sym left_is)
-      (begun_more left.asking left.pending left.tally block is.done.part is.done.part_is left.coming next.coming is.hands is.done.done.said is.done.done.is_said rest others
+      (begun_more left.asking left.seen left.tally block is.done.part is.done.part_is left.coming next.coming is.hands is.done.done.said is.done.done.is_said rest others
       (subst (λ (next : Left). IsBegunBy next.closed next rest others) next_is begins))
 
   pub ends_on : (ending : Ending) → EndsSo next ending → EndsSo left ending
   ends_on ending ends =
       subst (λ (left : Left). EndsBy left.closed left ending) (sym left_is)
-      (ends_more left.asking left.pending left.tally block is.done.part is.done.part_is left.coming next.coming is.hands ending
+      (ends_more left.asking left.seen left.tally block is.done.part is.done.part_is left.coming next.coming is.hands ending
       (subst (λ (next : Left). EndsBy next.closed next ending) next_is ends))
 
 -- the end is reported
@@ -233,15 +233,18 @@ front_out Is out out' err err' text said is front reports = record {
   beside = subst (λ said. Reports said err err') (sym (take-length said)) reports;
 }
 
-module _ (asking : LintAsking) (asks : Bool) (tally : Tally) (coming : Option (List Block)) (bytes : Option (List ℕ)) (none : tally ≡ no_blocks) (coming_is : coming ≡ blocks_to_come 1 bytes) where
+module _ (asking : LintAsking) (asks : Bool) (seen : Seen) (tally : Tally) (coming : Option (List Block)) (bytes : Option (List ℕ)) (nothing : seen ≡ nothing_seen) (none : tally ≡ no_blocks) (coming_is : coming ≡ blocks_to_come 1 bytes) where
   abbrev whole : Left
-  whole = record { asking = asking; pending = None; tally = tally; closed = false; coming = coming }
+  whole = record { asking = asking; seen = seen; tally = tally; closed = false; coming = coming }
 
   abbrev begin : Option (List Block) → Left
-  begin coming = record { asking = asking; pending = None; tally = no_blocks; closed = false; coming = coming }
+  begin coming = record { asking = asking; seen = nothing_seen; tally = no_blocks; closed = false; coming = coming }
 
   whole_is : whole ≡ begin (blocks_to_come 1 bytes)
-  whole_is = ap (λ tally. record whole { tally = tally }) none ∙ ap begin coming_is
+  whole_is =
+      ap (λ seen. record whole { seen = seen }) nothing
+      ∙ ap (λ tally. record whole { seen = nothing_seen; tally = tally }) none
+      ∙ ap begin coming_is
 
   pub begins_listing : (text said : List ℕ) → IsBegunBy false whole text said → BeginsLints asking asks bytes (record { text = text; beside = said; ending = Answered })
   begins_listing text said begun = subst (λ (left : Left). IsBegunBy false left text said) whole_is begun
@@ -288,13 +291,13 @@ pub ended : (left : Left) (ending : Ending) → left.closed ≡ true → ending 
 ended left ending closed is = subst (λ closed. EndsBy closed left ending) (sym closed) is
 
 -- a block that is refused was reported so
-pub refused_block : (asking : LintAsking) (pending : Option Pending) (block : Block) (refused : FileFault) (fault : Option BlockFault) (out beside beside' : List ℕ)
+pub refused_block : (asking : LintAsking) (seen : Seen) (block : Block) (refused : FileFault) (fault : Option BlockFault) (out beside beside' : List ℕ)
     → IsFaultOf (file_by (names_of_host asking.host) block.text) refused → IsRefusalSaid asking block refused fault beside beside'
-    → IsBlockReported asking pending pending block fault out out beside beside'
-refused_block asking pending block (OfBlock why) fault out beside beside' is (same, (said, is_said, more)) = record {
+    → IsBlockReported asking seen seen block fault out out beside beside'
+refused_block asking seen block (OfBlock why) fault out beside beside' is (same, (said, is_said, more)) = record {
   part = Err why;
-  part_is = subst (λ (read : Result FileValue BlockFault). IsPartBy asking pending block read (Err why)) (sym is) refl;
-  pending_is = ap (pending_after pending block.line) (sym is);
+  part_is = subst (λ (read : Result FileValue BlockFault). IsPartBy asking seen block read (Err why)) (sym is) refl;
+  seen_is = ap (seen_after seen block.line) (sym is);
   is_reported = (sym (append-nil out), (said, is_said, more), sym same);
 }
-refused_block asking pending block Memory fault out beside beside' is never = absurd never
+refused_block asking seen block Memory fault out beside beside' is never = absurd never

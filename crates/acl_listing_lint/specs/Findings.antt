@@ -20,7 +20,9 @@ use Rattle.acl_listing_lint.specs.AceEffects.{IsAceEffectSaid}
 use Rattle.acl_listing_lint.specs.Effects.{IsEffectSaid}
 use Rattle.acl_listing_lint.specs.Found.{Spot}
 use Rattle.acl_listing_lint.specs.Masked.{masked_text}
-use Rattle.acl_listing_lint.specs.Pending.{Pending, pending_after, reported_at, reported_before}
+use Rattle.acl_listing_lint.specs.FromDefault.{created_in, differs_text_if, lacking_text}
+use Rattle.acl_listing_lint.specs.Pending.{reported_at, reported_before}
+use Rattle.acl_listing_lint.specs.Seen.{Seen, default_at, seen_after}
 use Rattle.acl_listing_lint.specs.NoAccount.{lacks_tag, lacks_who, no_account_text, owners_text}
 
 -- the name of the listing, and who there is
@@ -42,11 +44,13 @@ AreFoundFrom Is number (one ∷ more) text = (first : List ℕ) × (rest : List 
 
 -- ---- a POSIX list
 
--- the access list of a file of these owners, or its default list, and who there is
+-- the access list of a file of these owners, or its default list, who there is, and the list that
+-- the file would have got by its folder's default list, if that is known
 pub record PosixList : Type 0 where
   pub entries : List EntryValue
   pub owners : Owners
   pub host : Host
+  pub created : Option (List EntryValue)
   pub is_default : Bool
 
 -- what stands before its entries
@@ -62,13 +66,19 @@ IsEffectSaidIn true list spot entry text = text ≡ []
 IsEffectSaidIn false list spot entry text =
     IsEffectSaid list.owners list.entries spot entry text
 
--- it is found of an entry of the list: that it has none, what the mask takes of it, and that nobody
--- has the id that it names
+-- and whether whom it names is granted otherwise than at the file's creation
+abbrev pub differs_text_in : Bool → PosixList → Spot → EntryValue → List ℕ
+differs_text_in true list spot entry = []
+differs_text_in false list spot entry = differs_text_if list.created list.entries spot entry
+
+-- it is found of an entry of the list: that it has none, what the mask takes of it, that nobody has
+-- the id that it names, and that this is granted otherwise
 abbrev pub IsFoundOfEntry : PosixList → Spot → EntryValue → List ℕ → Type 0
 IsFoundOfEntry list spot entry text = (first : List ℕ)
     × IsEffectSaidIn list.is_default list spot entry first
     × (text ≡ first ++ masked_text spot list.entries entry
-    ++ no_account_text (lacks_tag list.host entry.tag) spot)
+    ++ no_account_text (lacks_tag list.host entry.tag) spot
+    ++ differs_text_in list.is_default list spot entry)
 
 -- and of a piece, if that is one
 abbrev pub IsFoundOfRead : PosixList → Spot → Result EntryValue PieceFault → List ℕ → Type 0
@@ -85,17 +95,19 @@ abbrev pub AreFoundInText : LintAsking → PosixList → ℕ → List ℕ → Li
 AreFoundInText asking list line said text =
     AreFound (IsFoundOfPiece asking list line) (pieces said) text
 
--- the lists of a file
+-- the lists of a file, and the one that it would have got
 pub record PosixLists : Type 0 where
   pub owners : Owners
   pub access : List EntryValue
   pub default : Option (List EntryValue)
+  pub created : Option (List EntryValue)
 
 abbrev pub list_in : LintAsking → PosixLists → Bool → List EntryValue → PosixList
 list_in asking lists is_default entries = record {
   entries = entries;
   owners = lists.owners;
   host = asking.host;
+  created = lists.created;
   is_default = is_default;
 }
 
@@ -149,44 +161,53 @@ AreFoundInAceLines name list line place (said ∷ more) text = (first : List ℕ
 
 -- ---- a block
 
--- of the lines behind a header, of which the first has this number
-abbrev pub IsFoundInLists : LintAsking → Owners → Lists → ℕ → List (List ℕ) → List ℕ → Type 0
-IsFoundInLists asking owners (Posix access default) line lines text = AreFoundFrom
-    (IsFoundInLine asking (record { owners = owners; access = access; default = default }))
+-- of the lines behind a header, of which the first has this number, of a file that would have got
+-- this list
+abbrev pub IsFoundInLists : LintAsking → Owners → Option (List EntryValue) → Lists → ℕ
+    → List (List ℕ) → List ℕ → Type 0
+IsFoundInLists asking owners created (Posix access default) line lines text = AreFoundFrom
+    (IsFoundInLine asking
+    (record { owners = owners; access = access; default = default; created = created }))
     line lines text
-IsFoundInLists asking owners (Nfs4 acl) line lines text = AreFoundInAceLines asking.name
+IsFoundInLists asking owners created (Nfs4 acl) line lines text = AreFoundInAceLines asking.name
     (record { owners = owners; aces = acl; host = asking.host }) line 0 lines text
 
 abbrev pub owners_of : FileValue → Owners
 owners_of file = record { owner = file.owner; group = file.group }
 
--- of a block, which says the file: that nobody has an id of its header, and what its lists show
-abbrev pub IsFoundInBlock : LintAsking → Block → FileValue → List ℕ → Type 0
-IsFoundInBlock asking block file text = (rest : List ℕ)
-    × IsFoundInLists asking (owners_of file) file.lists (block.line + 3) (list_lines block.text)
-    rest
-    × (text ≡ owners_text asking.host asking.name block.line (owners_of file) ++ rest)
+-- of a block, which says the file: whom the list that it would have got names and its own doesn't,
+-- that nobody has an id of its header, and what its lists show
+abbrev pub IsFoundInBlock : LintAsking → Option (List EntryValue) → Block → FileValue → List ℕ
+    → Type 0
+IsFoundInBlock asking created block file text = (rest : List ℕ)
+    × IsFoundInLists asking (owners_of file) created file.lists (block.line + 3)
+    (list_lines block.text) rest
+    × (text ≡ lacking_text asking.name block.line created file.lists
+    ++ owners_text asking.host asking.name block.line (owners_of file) ++ rest)
+
+-- the list that it would have got in its folder, if that is one of those that were seen
+abbrev pub created_of : Seen → FileValue → Option (List EntryValue)
+created_of seen file = created_in (default_at seen.folders file.path) file.lists
 
 -- between the lines of a file that is pending, if this one shows that it is a folder, and of this
 -- one, if it is one in which anybody may delete
-abbrev pub IsFoundBetween : LintAsking → Option Pending → Block → FileValue → List ℕ → Type 0
-IsFoundBetween asking pending block file text = (found : List ℕ)
-    × IsFoundInBlock asking block file found
-    × (text ≡ reported_before asking.name pending file.path ++ found
+abbrev pub IsFoundBetween : LintAsking → Seen → Block → FileValue → List ℕ → Type 0
+IsFoundBetween asking seen block file text = (found : List ℕ)
+    × IsFoundInBlock asking (created_of seen file) block file found
+    × (text ≡ reported_before asking.name seen.pending file.path ++ found
     ++ reported_at asking.name block.line file)
 
--- what a block results in behind a file that is pending: what is found, or why it says no file
-abbrev pub IsPartBy : LintAsking → Option Pending → Block → Result FileValue BlockFault → Part
-    → Type 0
-IsPartBy asking pending block (Ok file) part =
-    (text : List ℕ) × IsFoundBetween asking pending block file text × (part ≡ Ok text)
-IsPartBy asking pending block (Err fault) part = part ≡ Err fault
+-- what a block results in behind what was seen: what is found, or why it says no file
+abbrev pub IsPartBy : LintAsking → Seen → Block → Result FileValue BlockFault → Part → Type 0
+IsPartBy asking seen block (Ok file) part =
+    (text : List ℕ) × IsFoundBetween asking seen block file text × (part ≡ Ok text)
+IsPartBy asking seen block (Err fault) part = part ≡ Err fault
 
-abbrev pub IsPartOf : LintAsking → Option Pending → Block → Part → Type 0
-IsPartOf asking pending block part =
-    IsPartBy asking pending block (file_by (names_of_host asking.host) block.text) part
+abbrev pub IsPartOf : LintAsking → Seen → Block → Part → Type 0
+IsPartOf asking seen block part =
+    IsPartBy asking seen block (file_by (names_of_host asking.host) block.text) part
 
--- what is pending behind it
-abbrev pub pending_behind : LintAsking → Option Pending → Block → Option Pending
-pending_behind asking pending block =
-    pending_after pending block.line (file_by (names_of_host asking.host) block.text)
+-- what is seen behind it
+abbrev pub seen_behind : LintAsking → Seen → Block → Seen
+seen_behind asking seen block =
+    seen_after seen block.line (file_by (names_of_host asking.host) block.text)

@@ -5,6 +5,8 @@ pub mod Effects
 pub mod AceEffects
 pub mod Deletions
 pub mod Pending
+pub mod FromDefault
+pub mod Seen
 pub mod Findings
 pub mod Lints
 pub mod LintsLine

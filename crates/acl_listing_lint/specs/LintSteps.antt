@@ -14,13 +14,14 @@ use Rattle.acl_reports.specs.Listed.{tally_with}
 use Rattle.acl_reports.specs.Reporting.{IsItemDone, IsItemReported}
 use Rattle.acl_reports.specs.Strangers.{no_strangers}
 use Rattle.acl_reports.specs.declared.tally.Tally.{Tally}
-use Rattle.acl_listing_lint.specs.Findings.{AceList, IsPartOf, LintAsking, PosixList}
-use Rattle.acl_listing_lint.specs.Findings.{pending_behind}
+use Rattle.acl_listing_lint.specs.Findings.{AceList, IsPartOf, LintAsking, PosixList, PosixLists}
+use Rattle.acl_listing_lint.specs.Findings.{seen_behind}
 use Rattle.acl_listing_lint.specs.Found as found
 use Rattle.acl_listing_lint.specs.Lints.{AreBegun, AreItems}
-use Rattle.acl_listing_lint.specs.Pending.{Pending}
+use Rattle.acl_listing_lint.specs.Seen.{Seen}
 use Rattle.acl_listing_lint.specs.declared.aces.ListedAces.{ListedAces}
 use Rattle.acl_listing_lint.specs.declared.entries.Listed.{Listed}
+use Rattle.acl_listing_lint.specs.declared.entries.ListedLists.{ListedLists}
 use Rattle.acl_listing_lint.specs.declared.found.Spot.{Spot}
 
 abbrev pub view_spot : Spot → found.Spot
@@ -36,7 +37,16 @@ view_list listed = record {
   entries = listed.acl.now;
   owners = listed.owners;
   host = listed.host.now;
+  created = listed.created.now;
   is_default = listed.is_default;
+}
+
+abbrev pub view_lists : ListedLists → PosixLists
+view_lists lists = record {
+  owners = lists.owners;
+  access = lists.access.now;
+  default = lists.default.now;
+  created = lists.created.now;
 }
 
 abbrev pub view_aces : ListedAces → AceList
@@ -61,12 +71,12 @@ pub record Adds (Is : List ℕ → Type 0) (out out' : List ℕ) : Type 0 where
   pub is : Is text
   pub out_is : out' ≡ out ++ text
 
--- the block was reported, this is pending now, and this is wrong with it
-pub record IsBlockReported (asking : LintAsking) (pending pending' : Option Pending)
+-- the block was reported, this is seen behind it, and this is wrong with it
+pub record IsBlockReported (asking : LintAsking) (seen seen' : Seen)
     (block : Block) (fault : Option BlockFault) (out out' beside beside' : List ℕ) : Type 0 where
   pub part : Part
-  pub part_is : IsPartOf asking pending block part
-  pub pending_is : pending' ≡ pending_behind asking pending block
+  pub part_is : IsPartOf asking seen block part
+  pub seen_is : seen' ≡ seen_behind asking seen block
   pub is_reported : IsItemReported asking.name (names_of_host asking.host)
       (record { block = block; part = part }) fault out out' beside beside'
 
@@ -79,11 +89,11 @@ IsRefusalSaid asking block (OfBlock refused) fault beside beside' = (fault ≡ S
 IsRefusalSaid asking block Memory fault beside beside' = ⊥
 
 -- and counted
-pub record IsBlockDone (asking : LintAsking) (pending pending' : Option Pending) (block : Block)
+pub record IsBlockDone (asking : LintAsking) (seen seen' : Seen) (block : Block)
     (tally tally' : Tally) (out out' beside beside' : List ℕ) : Type 0 where
   pub part : Part
-  pub part_is : IsPartOf asking pending block part
-  pub pending_is : pending' ≡ pending_behind asking pending block
+  pub part_is : IsPartOf asking seen block part
+  pub seen_is : seen' ≡ seen_behind asking seen block
   pub done : IsItemDone asking.name (names_of_host asking.host)
       (record { block = block; part = part }) None tally tally' no_strangers no_strangers
       out out' beside beside'
@@ -91,7 +101,7 @@ pub record IsBlockDone (asking : LintAsking) (pending pending' : Option Pending)
 -- what there is to report of a listing
 pub record Left : Type 0 where
   pub asking : LintAsking
-  pub pending : Option Pending
+  pub seen : Seen
   pub tally : Tally
   -- whether the end was reported
   pub closed : Bool
@@ -99,10 +109,10 @@ pub record Left : Type 0 where
   pub coming : Option (List Block)
 
 -- these texts are all that is reported and said of the blocks, and at the end
-pub record AreReported (asking : LintAsking) (pending : Option Pending) (tally : Tally)
+pub record AreReported (asking : LintAsking) (seen : Seen) (tally : Tally)
     (blocks : List Block) (text more : List ℕ) : Type 0 where
   pub items : List Item
-  pub items_are : AreItems asking pending blocks items
+  pub items_are : AreItems asking seen blocks items
   pub text_is : text ≡ reported items
   pub said : List ℕ
   pub said_are : AreSaid asking.name (names_of_host asking.host) items said
@@ -111,7 +121,7 @@ pub record AreReported (asking : LintAsking) (pending : Option Pending) (tally :
 abbrev pub IsReportedBy : Bool → Left → List ℕ → List ℕ → Type 0
 IsReportedBy true left text more = (text ≡ []) × (more ≡ [])
 IsReportedBy false left text more = IfSome left.coming (λ blocks.
-    AreReported left.asking left.pending left.tally blocks text more)
+    AreReported left.asking left.seen left.tally blocks text more)
 
 abbrev pub IsReported : Left → List ℕ → List ℕ → Type 0
 IsReported left = IsReportedBy left.closed left
@@ -119,7 +129,7 @@ IsReported left = IsReportedBy left.closed left
 abbrev pub IsBegunBy : Bool → Left → List ℕ → List ℕ → Type 0
 IsBegunBy true left text more = (text ≡ []) × (more ≡ [])
 IsBegunBy false left text more = IfSome left.coming (λ blocks.
-    AreBegun left.asking left.pending left.tally blocks text more)
+    AreBegun left.asking left.seen left.tally blocks text more)
 
 abbrev pub IsBegun : Left → List ℕ → List ℕ → Type 0
 IsBegun left = IsBegunBy left.closed left
@@ -128,7 +138,7 @@ IsBegun left = IsBegunBy left.closed left
 abbrev pub EndsBy : Bool → Left → Ending → Type 0
 EndsBy true left ending = ending ≡ ending_of left.tally
 EndsBy false left ending = IfSome left.coming (λ blocks. (items : List Item)
-    → AreItems left.asking left.pending blocks items
+    → AreItems left.asking left.seen blocks items
     → ending ≡ ending_of (tally_with left.tally items))
 
 abbrev pub EndsSo : Left → Ending → Type 0

@@ -10,26 +10,26 @@ use Rattle.acl_people.specs.Host.{names_of_host}
 use Rattle.acl_reports.specs.Listed.{AreSaid, Item, Part, closing, ending_of, no_blocks, reported}
 use Rattle.acl_reports.specs.Listed.{tally_with}
 use Rattle.acl_reports.specs.declared.tally.Tally.{Tally}
-use Rattle.acl_listing_lint.specs.Findings.{IsPartOf, LintAsking, pending_behind}
-use Rattle.acl_listing_lint.specs.Pending.{Pending}
+use Rattle.acl_listing_lint.specs.Findings.{IsPartOf, LintAsking, seen_behind}
+use Rattle.acl_listing_lint.specs.Seen.{Seen, nothing_seen}
 
 -- blocks, each with what it results in behind those before it
-abbrev pub AreItems : LintAsking → Option Pending → List Block → List Item → Type 0
-AreItems asking pending [] items = items ≡ []
-AreItems asking pending (block ∷ blocks) items = (part : Part) × (rest : List Item)
-    × IsPartOf asking pending block part
-    × AreItems asking (pending_behind asking pending block) blocks rest
+abbrev pub AreItems : LintAsking → Seen → List Block → List Item → Type 0
+AreItems asking seen [] items = items ≡ []
+AreItems asking seen (block ∷ blocks) items = (part : Part) × (rest : List Item)
+    × IsPartOf asking seen block part
+    × AreItems asking (seen_behind asking seen block) blocks rest
     × (items ≡ record { block = block; part = part } ∷ rest)
 
 -- the texts are what is reported and said of the first of them, and maybe at the end, of a listing
--- of which so much was counted before, and this file is pending
-pub record AreBegun (asking : LintAsking) (pending : Option Pending) (tally : Tally)
+-- of which so much was counted and seen before
+pub record AreBegun (asking : LintAsking) (seen : Seen) (tally : Tally)
     (blocks : List Block) (text more : List ℕ) : Type 0 where
   pub first : List Block
   pub rest : List Block
   pub are : blocks ≡ first ++ rest
   pub items : List Item
-  pub items_are : AreItems asking pending first items
+  pub items_are : AreItems asking seen first items
   pub text_is : text ≡ reported items
   pub said : List ℕ
   pub said_are : AreSaid asking.name (names_of_host asking.host) items said
@@ -40,7 +40,7 @@ pub record AreBegun (asking : LintAsking) (pending : Option Pending) (tally : Ta
 pub record IsAnswer (asking : LintAsking) (asks : Bool) (blocks : List Block) (answer : Answer)
     : Type 0 where
   pub items : List Item
-  pub items_are : AreItems asking None blocks items
+  pub items_are : AreItems asking nothing_seen blocks items
   pub text : answer.text ≡ reported items
   pub said : List ℕ
   pub said_are : AreSaid asking.name (names_of_host asking.host) items said
@@ -56,4 +56,4 @@ AnswersLints asking asks bytes answer = IfSome (blocks_to_come 1 bytes) (λ bloc
 -- and as far as it is begun
 abbrev pub BeginsLints : LintAsking → Bool → Option (List ℕ) → Answer → Type 0
 BeginsLints asking asks bytes answer = IfSome (blocks_to_come 1 bytes) (λ blocks.
-    AreBegun asking None no_blocks blocks answer.text answer.beside)
+    AreBegun asking nothing_seen no_blocks blocks answer.text answer.beside)

@@ -1,11 +1,10 @@
 -- Which blocks are those of folders in which anybody may delete.
-use Rattle.std.specs.Prelude.{◌&&◌, ℕ, Bool, not, List, [], Option, Some, None, Result, Ok}
-use Rattle.std.specs.Prelude.{Err, codes, if◌then◌else◌}
+use Rattle.std.specs.Prelude.{◌&&◌, ℕ, Bool, not, List, [], Option, Some, None, codes}
+use Rattle.std.specs.Prelude.{if◌then◌else◌}
 use Rattle.acl_access.specs.Paths.{printed_path}
 use Rattle.acl_listings.specs.Folders.{says_folder}
 use Rattle.acl_listings.specs.Block.{FileValue}
 use Rattle.acl_listings.specs.Way.{is_above}
-use Rattle.acl_listings.specs.declared.fault.BlockFault.{BlockFault}
 use Rattle.acl_reports.specs.Files.{deciding_list}
 use Rattle.acl_listing_lint.specs.Deletions.{anyone_deletes}
 use Rattle.acl_listing_lint.specs.Found.{found_line}
@@ -40,8 +39,3 @@ abbrev pub reported_before : List ℕ → Option Pending → List ℕ → List �
 reported_before name None path = []
 reported_before name (Some pending) path =
     if is_above pending.path path then deletes_line name pending else []
-
--- what is pending behind one more block: one that says no file leaves it
-abbrev pub pending_after : Option Pending → ℕ → Result FileValue BlockFault → Option Pending
-pending_after pending line (Ok file) = pending_then line file
-pending_after pending line (Err fault) = pending

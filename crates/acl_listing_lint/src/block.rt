@@ -5,18 +5,20 @@ ghost use Rattle.acl_names.specs.Bytes.{newline};
 ghost use Rattle.acl_names.specs.Pieces.{parts};
 ghost use Rattle.acl_reports.specs.Reporting.{IsListingFailure};
 ghost use Rattle.acl_listing_lint.specs.Findings.{IsFoundBetween, IsFoundInBlock, IsFoundInLists};
-ghost use Rattle.acl_listing_lint.specs.Findings.{owners_of};
-ghost use Rattle.acl_listing_lint.specs.Pending.{pending_then};
+ghost use Rattle.acl_listing_lint.specs.Findings.{created_of, owners_of};
+ghost use Rattle.acl_listing_lint.specs.Seen.{seen_then};
 ghost use Rattle.acl_listing_lint.specs.LintSteps.{Adds, IsBlockReported, IsRefusalSaid};
 
 use crate::aces::{ListedAces, push_ace_lines};
-use crate::entries::{line_behind, push_lines};
+use crate::entries::{ListedLists, line_behind, push_lines};
+use crate::from_default::push_lacking;
 use crate::no_account::push_owners;
-use crate::pending::{Pending, push_after, push_before};
+use crate::seen::{Seen, created_for, push_shown, see};
 use acl_cli::{Failure, RunFault};
 use acl_listings::{BlockFault, File, FileFault, Lists, lines_behind, read_file};
 use acl_nfs4::Owners;
 use acl_people::Host;
+use acl_posix::Acl;
 use acl_reports::push_fault;
 use std::alloc::Global;
 
@@ -33,26 +35,34 @@ fn owners_of(file: &File<'_>) -> Owners
     }
 }
 
-/// Appends what is found in the lines behind a header, of which the first has this number.
+/// Appends what is found in the lines behind a header, of which the first has this number, of a
+/// file that would have got the created list.
 fn push_lists<'n>(
     alloc: Global,
     name: &'n str,
     host: &Host,
     owners: &Owners,
+    created: &Option<Acl>,
     lists: &Lists,
     first: u64,
     list: &[u8],
     out: &mut Vec<u8>,
 ) -> Result<(), Failure<'n>>
     ensures found { OnOk result (Adds (IsFoundInLists
-        (record { name = name.entry.now; host = host.now }) owners.now lists.now first
+        (record { name = name.entry.now; host = host.now }) owners.now created.now lists.now first
         (parts newline list.now)) out.old.items out.new.items) }
     ensures failed { IfErr result (IsListingFailure name.entry.now) }
 {
     match lists {
-        Lists::Posix { access, default } => push_lines(
-            alloc, name, host, owners, access, default, first, list, out,
-        ),
+        Lists::Posix { access, default } => {
+            let listed = ListedLists {
+                owners: *owners,
+                access,
+                default,
+                created,
+            };
+            push_lines(alloc, name, host, &listed, first, list, out)
+        }
         Lists::Nfs4 { acl } => {
             let listed = ListedAces {
                 acl,
@@ -65,11 +75,48 @@ fn push_lists<'n>(
 }
 
 /// Appends what is found in the block with this text, whose first line has this number, and which
-/// says the file.
+/// says the file, which would have got the created list.
 fn push_found<'n>(
     alloc: Global,
     name: &'n str,
     host: &Host,
+    created: &Option<Acl>,
+    line: u64,
+    text: &[u8],
+    file: &File<'_>,
+    out: &mut Vec<u8>,
+) -> Result<(), Failure<'n>>
+    ensures found { OnOk result (Adds (IsFoundInBlock
+        (record { name = name.entry.now; host = host.now }) created.now
+        (record { line = line; text = text.now }) (view_file file.now))
+        out.old.items out.new.items) }
+    ensures failed { IfErr result (IsListingFailure name.entry.now) }
+{
+    let owners = owners_of(file);
+    push_lacking(name, line, created, &file.lists, out)?;
+    push_owners(name, host, line, &owners, out)?;
+    let list = lines_behind(lines_behind(lines_behind(text)));
+    let first = line_behind(name, line, HEADER_LINES)?;
+    push_lists(
+        alloc,
+        name,
+        host,
+        &owners,
+        created,
+        &file.lists,
+        first,
+        list,
+        out,
+    )?;
+    Ok(())
+}
+
+/// Appends what is found in such a block, by the folders that were seen.
+fn push_found_by<'n>(
+    alloc: Global,
+    name: &'n str,
+    host: &Host,
+    seen: &Seen,
     line: u64,
     text: &[u8],
     file: &File<'_>,
@@ -77,40 +124,37 @@ fn push_found<'n>(
 ) -> Result<(), Failure<'n>>
     ensures found { OnOk result (Adds (IsFoundInBlock
         (record { name = name.entry.now; host = host.now })
+        (created_of seen.now (view_file file.now))
         (record { line = line; text = text.now }) (view_file file.now))
         out.old.items out.new.items) }
     ensures failed { IfErr result (IsListingFailure name.entry.now) }
 {
-    let owners = owners_of(file);
-    push_owners(name, host, line, &owners, out)?;
-    let list = lines_behind(lines_behind(lines_behind(text)));
-    let first = line_behind(name, line, HEADER_LINES)?;
-    push_lists(alloc, name, host, &owners, &file.lists, first, list, out)?;
-    Ok(())
+    let created = created_for(alloc, seen, file)?;
+    push_found(alloc, name, host, &created, line, text, file, out)
 }
 
 /// Appends what is found in such a block and at its file, and what that shows of the one that is
-/// pending, in whose place it puts what is pending now.
+/// pending, and makes of what was seen what is seen behind it.
 fn push_file<'n>(
     alloc: Global,
     name: &'n str,
     host: &Host,
-    pending: &mut Option<Pending>,
+    seen: &mut Seen,
     line: u64,
     text: &[u8],
     file: File<'_>,
     out: &mut Vec<u8>,
 ) -> Result<(), Failure<'n>>
     ensures found { OnOk result (Adds (IsFoundBetween
-        (record { name = name.entry.now; host = host.now }) pending.old
+        (record { name = name.entry.now; host = host.now }) seen.old
         (record { line = line; text = text.now }) (view_file file.entry))
         out.old.items out.new.items) }
-    ensures pending { OnOk result (pending.new ≡ pending_then line (view_file file.entry)) }
+    ensures seen { OnOk result (seen.new ≡ seen_then seen.old line (view_file file.entry)) }
     ensures failed { IfErr result (IsListingFailure name.entry.now) }
 {
-    push_before(name, pending, file.path, out)?;
-    push_found(alloc, name, host, line, text, &file, out)?;
-    *pending = push_after(alloc, name, line, file, out)?;
+    push_shown(name, seen, file.path, out)?;
+    push_found_by(alloc, name, host, seen, line, text, &file, out)?;
+    see(alloc, name, line, file, seen, out)?;
     Ok(())
 }
 
@@ -144,21 +188,21 @@ pub(crate) fn report_block<'n>(
     alloc: Global,
     name: &'n str,
     host: &Host,
-    pending: &mut Option<Pending>,
+    seen: &mut Seen,
     line: u64,
     text: &[u8],
     out: &mut Vec<u8>,
     beside: &mut Vec<u8>,
 ) -> Result<Option<BlockFault>, Failure<'n>>
     ensures reported { IfOk result (λ fault. IsBlockReported
-        (record { name = name.entry.now; host = host.now }) pending.old pending.new
+        (record { name = name.entry.now; host = host.now }) seen.old seen.new
         (record { line = line; text = text.now }) fault out.old.items out.new.items
         beside.old.items beside.new.items) }
     ensures failed { IfErr result (IsListingFailure name.entry.now) }
 {
     match read_file(alloc, text, host) {
         Ok(file) => {
-            push_file(alloc, name, host, pending, line, text, file, out)?;
+            push_file(alloc, name, host, seen, line, text, file, out)?;
             Ok(None)
         }
         Err(refused) => push_refusal(name, host, line, text, refused, beside),

@@ -23,6 +23,10 @@ header's. WORD is
   no-effect   ENTRY: without it everybody has the same permissions
   masked      ENTRY PERMISSIONS: the mask takes these from the entry
   no-account  owner UID, group GID or ENTRY: no account has the id
+  differs-from-default ENTRY PERMISSIONS: by its folder's default list the file
+              would grant these to the named user or group, had it been created
+              with the mode that it has, or none; or default:ENTRY: the file
+              lacks this entry. The folder has to be listed before its content
   anyone-deletes PATH: users whom no entry names may delete in this folder what
               others own; it comes after the lines of the folder's entries
 no-effect is about entries of access lists, as Linux evaluates them. NFSv4

@@ -1,5 +1,5 @@
 //! What is found of the entries of POSIX lists.
-ghost use Rattle.std.specs.Prelude.{◌≡◌, ◌+◌, IfErr, IfOk, OnOk, option_map};
+ghost use Rattle.std.specs.Prelude.{◌≡◌, ◌+◌, ◌++◌, IfErr, IfOk, OnOk, option_map};
 ghost use Rattle.acl_names.specs.Bytes.{newline};
 ghost use Rattle.acl_names.specs.Pieces.{parts};
 ghost use Rattle.acl_people.specs.Host.{names_of_host};
@@ -7,12 +7,13 @@ ghost use Rattle.acl_posix.specs.EntryText.{entry_by};
 ghost use Rattle.acl_listings.specs.Header.{after_prefix};
 ghost use Rattle.acl_reports.specs.Reporting.{IsListingFailure};
 ghost use Rattle.acl_listing_lint.specs.Findings.{AreFoundFrom, AreFoundInText, IsFoundInLine};
-ghost use Rattle.acl_listing_lint.specs.Findings.{IsEffectSaidIn};
+ghost use Rattle.acl_listing_lint.specs.Findings.{IsEffectSaidIn, differs_text_in};
 ghost use Rattle.acl_listing_lint.specs.Findings.{IsFoundOfEntry, IsFoundOfRead, default_word};
 ghost use Rattle.acl_listing_lint.specs.Findings.{word_of};
-ghost use Rattle.acl_listing_lint.specs.LintSteps.{Adds, view_list, view_spot};
+ghost use Rattle.acl_listing_lint.specs.LintSteps.{Adds, view_list, view_lists, view_spot};
 
 use crate::found::Spot;
+use crate::from_default::push_differs;
 use crate::masked::push_masked;
 use crate::no_account::{lacks_tag, push_no_account};
 use crate::no_effect::push_no_effect;
@@ -29,7 +30,18 @@ pub(crate) struct Listed<'t> {
     pub acl: &'t Acl,
     pub owners: Owners,
     pub host: &'t Host,
+    /// The list that the file would have got by its folder's default list, if that is known.
+    pub created: &'t Option<Acl>,
     pub is_default: bool,
+}
+
+/// The POSIX lists of a file of these owners, and the list that it would have got.
+#[derive(Clone, Copy)]
+pub(crate) struct ListedLists<'t> {
+    pub owners: Owners,
+    pub access: &'t Acl,
+    pub default: &'t Option<Acl>,
+    pub created: &'t Option<Acl>,
 }
 
 /// What stands before the entries of a default list.
@@ -61,6 +73,22 @@ fn push_effect(
     push_no_effect(alloc, spot, &listed.owners, listed.acl, entry, out)
 }
 
+/// Appends the line of an entry of an access list that grants otherwise than at the creation.
+fn push_otherwise(
+    listed: &Listed<'_>,
+    spot: &Spot<'_>,
+    entry: &Entry,
+    out: &mut Vec<u8>,
+) -> Result<(), AllocError>
+    ensures { OnOk result (out.new.items ≡ out.old.items ++ differs_text_in listed.now.is_default
+        (view_list listed.now) (view_spot spot.now) entry.now) }
+{
+    if !listed.is_default {
+        push_differs(listed.created, listed.acl, spot, entry, out)?;
+    }
+    Ok(())
+}
+
 /// Appends what is found of an entry of the list.
 fn push_entry<'n>(
     alloc: Global,
@@ -77,6 +105,7 @@ fn push_entry<'n>(
     push_effect(alloc, listed, spot, entry, out)?;
     push_masked(spot, listed.acl, entry, out)?;
     push_no_account(lacks_tag(listed.host, &entry.tag), spot, out)?;
+    push_otherwise(listed, spot, entry, out)?;
     Ok(())
 }
 
@@ -143,40 +172,39 @@ fn push_line<'n>(
     alloc: Global,
     name: &'n str,
     host: &Host,
-    owners: &Owners,
-    access: &Acl,
-    default: &Option<Acl>,
+    listed: &ListedLists<'_>,
     line: u64,
     said: &[u8],
     out: &mut Vec<u8>,
 ) -> Result<(), Failure<'n>>
     ensures found { OnOk result (Adds (IsFoundInLine
-        (record { name = name.entry.now; host = host.now })
-        (record { owners = owners.now; access = access.now; default = default.now }) line said.now)
+        (record { name = name.entry.now; host = host.now }) (view_lists listed.now) line said.now)
         out.old.items out.new.items) }
     ensures failed { IfErr result (IsListingFailure name.entry.now) }
 {
     match after_default(said) {
-        Some(behind) => match default {
+        Some(behind) => match listed.default {
             Some(acl) => {
-                let listed = Listed {
+                let list = Listed {
                     acl,
-                    owners: *owners,
+                    owners: listed.owners,
                     host,
+                    created: listed.created,
                     is_default: true,
                 };
-                push_said(alloc, name, host, &listed, line, behind, out)
+                push_said(alloc, name, host, &list, line, behind, out)
             }
             None => Ok(()),
         },
         None => {
-            let listed = Listed {
-                acl: access,
-                owners: *owners,
+            let list = Listed {
+                acl: listed.access,
+                owners: listed.owners,
                 host,
+                created: listed.created,
                 is_default: false,
             };
-            push_said(alloc, name, host, &listed, line, said, out)
+            push_said(alloc, name, host, &list, line, said, out)
         }
     }
 }
@@ -199,25 +227,20 @@ pub(crate) fn push_lines<'n>(
     alloc: Global,
     name: &'n str,
     host: &Host,
-    owners: &Owners,
-    access: &Acl,
-    default: &Option<Acl>,
+    listed: &ListedLists<'_>,
     first: u64,
     list: &[u8],
     out: &mut Vec<u8>,
 ) -> Result<(), Failure<'n>>
     ensures found { OnOk result (Adds (AreFoundFrom (IsFoundInLine
-        (record { name = name.entry.now; host = host.now })
-        (record { owners = owners.now; access = access.now; default = default.now }))
+        (record { name = name.entry.now; host = host.now }) (view_lists listed.now))
         first (parts newline list.now)) out.old.items out.new.items) }
     ensures failed { IfErr result (IsListingFailure name.entry.now) }
 {
     let mut number = first;
     let mut lines = Parts::new(b'\n', list);
     while let Some(line) = lines.next() {
-        push_line(
-            alloc, name, host, owners, access, default, number, line, out,
-        )?;
+        push_line(alloc, name, host, listed, number, line, out)?;
         number = line_behind(name, number, 1)?;
     }
     Ok(())

@@ -10,7 +10,7 @@ ghost use Rattle.acl_listing_lint.specs.Lints.{AnswersLints, BeginsLints};
 ghost use Rattle.acl_listing_lint.specs.LintsMeaning.{named_meaning};
 
 use crate::block::report_block;
-use crate::pending::Pending;
+use crate::seen::{Seen, nothing_seen};
 use acl_cli::{Ending, ErrorOutput, Failure, OpenFiles, Reason, Reporting, report_each};
 use acl_listing_changes::with_difference;
 use acl_listings::Blocks;
@@ -25,9 +25,7 @@ pub(crate) struct Linting<'n, 't, R: Read + Drop> {
     name: &'n str,
     host: &'t Host,
     blocks: Blocks<R>,
-    /// The file of the last block that says one, if what comes after may show that it is a folder
-    /// in which anybody may delete.
-    pending: Option<Pending>,
+    seen: Seen,
     tally: Tally,
     /// Whether what is said at the end was said.
     closed: bool,
@@ -55,10 +53,10 @@ impl<'n, 't, R: Read + Drop> Linting<'n, 't, R> {
     ) -> Result<(), Failure<'n>>
         ensures name { self.new.name ≡ self.old.name }
         ensures rest { OnOk result (self.new
-            ≡ record self.old { pending = self.new.pending; tally = self.new.tally }) }
+            ≡ record self.old { seen = self.new.seen; tally = self.new.tally }) }
         ensures reported { OnOk result (IsBlockDone
             (record { name = self.old.name.now; host = self.old.host.now })
-            self.old.pending self.new.pending self.old.blocks.block self.old.tally self.new.tally
+            self.old.seen self.new.seen self.old.blocks.block self.old.tally self.new.tally
             out.old.items out.new.items beside.old.items beside.new.items) }
         ensures failed { IfErr result (IsListingFailure self.old.name.now) }
     {
@@ -68,7 +66,7 @@ impl<'n, 't, R: Read + Drop> Linting<'n, 't, R> {
             alloc,
             self.name,
             self.host,
-            &mut self.pending,
+            &mut self.seen,
             line,
             text,
             out,
@@ -91,7 +89,7 @@ impl<'n, 't, R: Read + Drop> Reporting<'n> for Linting<'n, 't, R> {
 
     ghost Reports = { λ linting. IsReported (record {
       asking = record { name = linting.name.now; host = linting.host.now };
-      pending = linting.pending;
+      seen = linting.seen;
       tally = linting.tally;
       closed = linting.closed;
       coming = linting.blocks.coming;
@@ -99,7 +97,7 @@ impl<'n, 't, R: Read + Drop> Reporting<'n> for Linting<'n, 't, R> {
 
     ghost Begins = { λ linting. IsBegun (record {
       asking = record { name = linting.name.now; host = linting.host.now };
-      pending = linting.pending;
+      seen = linting.seen;
       tally = linting.tally;
       closed = linting.closed;
       coming = linting.blocks.coming;
@@ -107,7 +105,7 @@ impl<'n, 't, R: Read + Drop> Reporting<'n> for Linting<'n, 't, R> {
 
     ghost Ends = { λ linting. EndsSo (record {
       asking = record { name = linting.name.now; host = linting.host.now };
-      pending = linting.pending;
+      seen = linting.seen;
       tally = linting.tally;
       closed = linting.closed;
       coming = linting.blocks.coming;
@@ -163,7 +161,7 @@ where
         name,
         host,
         blocks,
-        pending: None,
+        seen: nothing_seen(alloc),
         tally: Tally::new(),
         closed: false,
     };

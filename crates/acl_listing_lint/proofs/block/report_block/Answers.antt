@@ -6,7 +6,7 @@ use Rattle.acl_listings.specs.Views.{view_file}
 use Rattle.acl_listings.specs.declared.fault.BlockFault.{BlockFault}
 use Rattle.acl_people.specs.Host.{names_of_host}
 use Rattle.acl_listing_lint.specs.Findings.{IsPartBy, LintAsking}
-use Rattle.acl_listing_lint.specs.Pending.{pending_after}
+use Rattle.acl_listing_lint.specs.Seen.{seen_after}
 use Rattle.acl_listing_lint.proofs.LintLemmas.{refused_block}
 use Rattle.acl_listing_lint.proofs.block.report_block.Goals as goal
 
@@ -14,13 +14,13 @@ pub returns-in_ok-push_file-in-Ok-clause-reported : goal.returns-in_ok-push_file
 returns-in_ok-push_file-in-Ok-clause-reported c =
     let asking : LintAsking = record { name = c.args.name.now; host = c.args.host.now } in
     let block : Block = record { line = c.args.line; text = c.args.text.now } in
-    let pending = c.args.pending.now in
+    let seen = c.args.seen.now in
     let added = c.in_ok-push_file-in-Ok.ensures.found in
     let read : file_by (names_of_host c.args.host.now) c.args.text.now ≡ Ok (view_file c.in-Ok.file) = c.in-Ok.ensures.read in
     record {
       part = Ok added.text;
-      part_is = subst (λ (read : Result FileValue BlockFault). IsPartBy asking pending block read (Ok added.text)) (sym read) (added.text, added.is, refl);
-      pending_is = c.in_ok-push_file-in-Ok.ensures.pending ∙ ap (pending_after pending c.args.line) (sym read);
+      part_is = subst (λ (read : Result FileValue BlockFault). IsPartBy asking seen block read (Ok added.text)) (sym read) (added.text, added.is, refl);
+      seen_is = c.in_ok-push_file-in-Ok.ensures.seen ∙ ap (seen_after seen c.args.line) (sym read);
       is_reported = (added.out_is, ([], refl, sym (append-nil c.args.beside.now.items)), refl);
     }
 
@@ -29,5 +29,5 @@ returns-in-Err-clause-reported c =
     let asking : LintAsking = record { name = c.args.name.now; host = c.args.host.now } in
     let block : Block = record { line = c.args.line; text = c.args.text.now } in
     IfOk-weaker c.push_refusal.result _ _
-    (λ fault said. refused_block asking c.args.pending.now block c.in-Err.refused fault c.args.out.now.items c.args.beside.now.items c.push_refusal.new.beside.items c.in-Err.ensures.refused said)
+    (λ fault said. refused_block asking c.args.seen.now block c.in-Err.refused fault c.args.out.now.items c.args.beside.now.items c.push_refusal.new.beside.items c.in-Err.ensures.refused said)
     c.push_refusal.ensures.said

@@ -2,13 +2,14 @@ use Rattle.std.proofs.Common.{◌∙◌, ◌++◌, ℕ, List, [], ap, append_ass
 use Rattle.acl_names.specs.Bytes.{newline}
 use Rattle.acl_names.specs.Pieces.{parts}
 use Rattle.acl_listing_lint.specs.Findings.{AreFoundFrom, IsFoundInLine, LintAsking}
+use Rattle.acl_listing_lint.specs.LintSteps.{view_lists}
 use Rattle.acl_listing_lint.proofs.FoundLemmas.{numbered_all, numbered_more}
 use Rattle.acl_listing_lint.proofs.entries.push_lines.Goals as goal
 
 pub loop-line-init : goal.loop-line-init
 loop-line-init c =
     let asking : LintAsking = record { name = c.args.name.now; host = c.args.host.now } in
-    let Is = IsFoundInLine asking (record { owners = c.args.owners.now; access = c.args.access.now; default = c.args.default.now }) in
+    let Is = IsFoundInLine asking (view_lists c.args.listed.now) in
     record {
       so_far = [];
       out_is = sym (append-nil c.args.out.now.items);
@@ -18,7 +19,7 @@ loop-line-init c =
 pub loop-line-preserved : goal.loop-line-preserved
 loop-line-preserved c =
     let asking : LintAsking = record { name = c.args.name.now; host = c.args.host.now } in
-    let Is = IsFoundInLine asking (record { owners = c.args.owners.now; access = c.args.access.now; default = c.args.default.now }) in
+    let Is = IsFoundInLine asking (view_lists c.args.listed.now) in
     let was = c.loop-line.invariant in
     let added = c.in_ok-push_line.ensures.found in
     let lines = parts newline c.args.list.now in
@@ -32,7 +33,7 @@ loop-line-preserved c =
 pub returns-clause-found : goal.returns-clause-found
 returns-clause-found c =
     let asking : LintAsking = record { name = c.args.name.now; host = c.args.host.now } in
-    let Is = IsFoundInLine asking (record { owners = c.args.owners.now; access = c.args.access.now; default = c.args.default.now }) in
+    let Is = IsFoundInLine asking (view_lists c.args.listed.now) in
     let was = c.loop-line.invariant in
     record {
       text = was.so_far;

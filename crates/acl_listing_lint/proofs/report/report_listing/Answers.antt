@@ -1,4 +1,4 @@
-use Rattle.std.proofs.Common.{rules, ◌≡◌, ◌&&◌, false, [], None, length, refl, sym, subst}
+use Rattle.std.proofs.Common.{rules, ◌≡◌, ◌&&◌, false, [], length, refl, sym, subst}
 use Rattle.std.proofs.Math.Seq.{take-length}
 use Rattle.std.specs.Io.KnownBytes.{Appends}
 use Rattle.acl_cli.specs.Commands.{FrontWentOut}
@@ -14,7 +14,7 @@ pub report_each-requires : goal.report_each-requires
 report_each-requires g c κs =
     let left : Left = record {
       asking = record { name = c.args.name.now; host = c.args.host.now };
-      pending = None;
+      seen = c.nothing_seen.result;
       tally = c.new-2.result;
       closed = false;
       coming = c.in_ok-blocks.blocks.coming;
@@ -29,7 +29,7 @@ returns-in_err-some-clause-cut g c =
     let (text, said, begun, front, reports) = c.in_err-some.ensures.cut in
     let went : FrontWentOut (BeginsLints asking c.args.asks bytes) (g.W.Write.contents c.args.out.now) (g.W.Write.contents c.report_each.new.out) c.args.err.now c.report_each.new.err =
     front_out (BeginsLints asking c.args.asks bytes) _ _ _ _ text said
-    (begins_listing asking c.args.asks c.new-2.result c.in_ok-blocks.blocks.coming bytes c.new-2.ensures c.in_ok-blocks.ensures.blocks text said begun) front reports in
+    (begins_listing asking c.args.asks c.nothing_seen.result c.new-2.result c.in_ok-blocks.blocks.coming bytes c.nothing_seen.ensures c.new-2.ensures c.in_ok-blocks.ensures.blocks text said begun) front reports in
     search (rules, went)
 
 pub returns-then-linting-clause-answered : goal.returns-then-linting-clause-answered
@@ -40,7 +40,7 @@ returns-then-linting-clause-answered g c =
     let last = c.report_each.new.reporting in
     let left : Left = record {
       asking = record { name = last.name.now; host = last.host.now };
-      pending = last.pending;
+      seen = last.seen;
       tally = last.tally;
       closed = last.closed;
       coming = last.blocks.coming;
@@ -49,7 +49,7 @@ returns-then-linting-clause-answered g c =
     let ending : Ending = with_difference (c.args.asks && c.in_ok-some.some) c.ending.result in
     record {
       answer = record { text = text; beside = said; ending = ending };
-      is = answers_listing asking c.args.asks c.new-2.result c.in_ok-blocks.blocks.coming bytes c.new-2.ensures c.in_ok-blocks.ensures.blocks text said c.in_ok-some.some c.ending.result some_is reported ends;
+      is = answers_listing asking c.args.asks c.nothing_seen.result c.new-2.result c.in_ok-blocks.blocks.coming bytes c.nothing_seen.ensures c.new-2.ensures c.in_ok-blocks.ensures.blocks text said c.in_ok-some.some c.ending.result some_is reported ends;
       ends = sym c.with_difference.ensures;
       text = went;
       beside = reports;
@@ -62,6 +62,6 @@ returns-clause-cut g c =
     let (text, said, reported, went, reports, some_is) = c.in_ok-some.ensures.written in
     let out : FrontWentOut (BeginsLints asking c.args.asks bytes) (g.W.Write.contents c.args.out.now) (g.W.Write.contents c.report_each.new.out) c.args.err.now c.report_each.new.err =
     front_out (BeginsLints asking c.args.asks bytes) _ _ _ _ text said
-    (begins_reported asking c.args.asks c.new-2.result c.in_ok-blocks.blocks.coming bytes c.new-2.ensures c.in_ok-blocks.ensures.blocks text said reported)
+    (begins_reported asking c.args.asks c.nothing_seen.result c.new-2.result c.in_ok-blocks.blocks.coming bytes c.nothing_seen.ensures c.new-2.ensures c.in_ok-blocks.ensures.blocks text said reported)
     (length text, subst (Appends (g.W.Write.contents c.args.out.now) (g.W.Write.contents c.report_each.new.out)) (sym (take-length text)) went) reports in
     search (rules, out)

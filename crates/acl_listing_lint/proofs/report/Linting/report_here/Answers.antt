@@ -11,11 +11,11 @@ returns-in-Some-clause-reported g c =
     let now : Tally = c.in-Some.tally in
     let asking : LintAsking = record { name = c.args.self.now.name.now; host = c.args.self.now.host.now } in
     let block = c.args.self.now.blocks.block in
-    let pending = c.args.self.now.pending in
-    let after = c.report_block.new.pending in
-    let first = subst (λ (line : ℕ). IsBlockReported asking pending after (record { line = line; text = c.text-text.result.now }) c.in_ok-fault.fault
+    let seen = c.args.self.now.seen in
+    let after = c.report_block.new.seen in
+    let first = subst (λ (line : ℕ). IsBlockReported asking seen after (record { line = line; text = c.text-text.result.now }) c.in_ok-fault.fault
     c.args.out.now.items c.report_block.new.out.items c.args.beside.now.items c.report_block.new.beside.items) c.line-line.ensures c.in_ok-fault.ensures.reported in
-    let here = subst (λ (text : List ℕ). IsBlockReported asking pending after (record { line = block.line; text = text }) c.in_ok-fault.fault
+    let here = subst (λ (text : List ℕ). IsBlockReported asking seen after (record { line = block.line; text = text }) c.in_ok-fault.fault
     c.args.out.now.items c.report_block.new.out.items c.args.beside.now.items c.report_block.new.beside.items) c.text-text.ensures first in
     let item : Item = record { block = block; part = here.part } in
     let (text, (said, is_said, beside), fault) = here.is_reported in
@@ -26,4 +26,4 @@ returns-in-Some-clause-reported g c =
     ∙ ap (λ faults. record now { blocks = was.blocks + 1; faults = faults }) (c.in-Some.ensures.faults ∙ ap (λ fault. was.faults + is_fault fault) (sym fault))
     ∙ ap (λ unread. record now { blocks = was.blocks + 1; faults = faults; unread = unread }) (c.in-Some.ensures.unread ∙ ap (λ fault. was.unread + is_unread fault) (sym fault))
     ∙ ap (λ guess. record now { blocks = was.blocks + 1; faults = faults; unread = unread; guess = guess }) (c.in-Some.ensures.guess ∙ ap (first_guess was.guess) c.text-text.ensures) in
-    record { part = here.part; part_is = here.part_is; pending_is = here.pending_is; done = record { text = text; said = said; is_said = is_said; beside_is = beside; tally_is = counted; strangers_is = refl } }
+    record { part = here.part; part_is = here.part_is; seen_is = here.seen_is; done = record { text = text; said = said; is_said = is_said; beside_is = beside; tally_is = counted; strangers_is = refl } }

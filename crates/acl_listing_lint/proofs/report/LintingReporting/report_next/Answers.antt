@@ -23,8 +23,8 @@ returns-then-branch-clause-reported g c =
     let some : c.in_ok-advance.field-0 ≡ true = search rules in
     let first = c.in_ok-advance.ensures.rest in
     let second = c.in_ok-report_here.ensures.rest in
-    let left : Left = record { asking = record { name = was.name.now; host = was.host.now }; pending = was.pending; tally = was.tally; closed = was.closed; coming = was.blocks.coming } in
-    let next : Left = record { asking = record { name = now.name.now; host = now.host.now }; pending = now.pending; tally = now.tally; closed = now.closed; coming = now.blocks.coming } in
+    let left : Left = record { asking = record { name = was.name.now; host = was.host.now }; seen = was.seen; tally = was.tally; closed = was.closed; coming = was.blocks.coming } in
+    let next : Left = record { asking = record { name = now.name.now; host = now.host.now }; seen = now.seen; tally = now.tally; closed = now.closed; coming = now.blocks.coming } in
     let block = mid.blocks.block in
     let hands : HandsOut was.blocks.coming block mid.blocks.coming = if_true _ _ _ some c.in_ok-advance.ensures.block in
     let is : IsNext left next block c.args.out.now.items c.report_here.new.out.items c.args.beside.now.items c.report_here.new.beside.items = record {
@@ -32,7 +32,7 @@ returns-then-branch-clause-reported g c =
       still = ap (λ l. l.closed) second ∙ ap (λ l. l.closed) first ∙ c.if-self.false;
       asking = ap (λ l. record { name = l.name.now; host = l.host.now }) second ∙ ap (λ l. record { name = l.name.now; host = l.host.now }) first;
       hands = subst (HandsOut was.blocks.coming block) (sym (ap (λ l. l.blocks.coming) second)) hands;
-      done = subst (λ m. IsBlockDone (record { name = m.name.now; host = m.host.now }) m.pending now.pending block m.tally now.tally
+      done = subst (λ m. IsBlockDone (record { name = m.name.now; host = m.host.now }) m.seen now.seen block m.tally now.tally
           c.args.out.now.items c.report_here.new.out.items c.args.beside.now.items c.report_here.new.beside.items) first c.in_ok-report_here.ensures.reported;
     } in (
       reported_of is.done.part,
@@ -52,8 +52,8 @@ returns-then-branch-clause-ends g c =
     let some : c.in_ok-advance.field-0 ≡ true = search rules in
     let first = c.in_ok-advance.ensures.rest in
     let second = c.in_ok-report_here.ensures.rest in
-    let left : Left = record { asking = record { name = was.name.now; host = was.host.now }; pending = was.pending; tally = was.tally; closed = was.closed; coming = was.blocks.coming } in
-    let next : Left = record { asking = record { name = now.name.now; host = now.host.now }; pending = now.pending; tally = now.tally; closed = now.closed; coming = now.blocks.coming } in
+    let left : Left = record { asking = record { name = was.name.now; host = was.host.now }; seen = was.seen; tally = was.tally; closed = was.closed; coming = was.blocks.coming } in
+    let next : Left = record { asking = record { name = now.name.now; host = now.host.now }; seen = now.seen; tally = now.tally; closed = now.closed; coming = now.blocks.coming } in
     let block = mid.blocks.block in
     let hands : HandsOut was.blocks.coming block mid.blocks.coming = if_true _ _ _ some c.in_ok-advance.ensures.block in
     let is : IsNext left next block c.args.out.now.items c.report_here.new.out.items c.args.beside.now.items c.report_here.new.beside.items = record {
@@ -61,7 +61,7 @@ returns-then-branch-clause-ends g c =
       still = ap (λ l. l.closed) second ∙ ap (λ l. l.closed) first ∙ c.if-self.false;
       asking = ap (λ l. record { name = l.name.now; host = l.host.now }) second ∙ ap (λ l. record { name = l.name.now; host = l.host.now }) first;
       hands = subst (HandsOut was.blocks.coming block) (sym (ap (λ l. l.blocks.coming) second)) hands;
-      done = subst (λ m. IsBlockDone (record { name = m.name.now; host = m.host.now }) m.pending now.pending block m.tally now.tally
+      done = subst (λ m. IsBlockDone (record { name = m.name.now; host = m.host.now }) m.seen now.seen block m.tally now.tally
           c.args.out.now.items c.report_here.new.out.items c.args.beside.now.items c.report_here.new.beside.items) first c.in_ok-report_here.ensures.reported;
     } in
     ends_on left next block _ _ _ _ is
@@ -73,7 +73,7 @@ returns-clause-reported g c =
     let none : c.in_ok-advance.field-0 ≡ false = search rules in
     let first = c.in_ok-advance.ensures.rest in
     let over : IsOver was.blocks.coming = if_false _ _ _ none c.in_ok-advance.ensures.block in
-    let left : Left = record { asking = record { name = was.name.now; host = was.host.now }; pending = was.pending; tally = was.tally; closed = was.closed; coming = was.blocks.coming } in
+    let left : Left = record { asking = record { name = was.name.now; host = was.host.now }; seen = was.seen; tally = was.tally; closed = was.closed; coming = was.blocks.coming } in
     let said : c.push_closing.new.out.items ≡ c.args.beside.now.items ++ closing was.name.now was.tally =
     c.in_ok-push_closing.ensures ∙ ap (λ m. c.args.beside.now.items ++ closing m.name.now m.tally) first in (
       [],
@@ -81,11 +81,11 @@ returns-clause-reported g c =
       sym (append-nil c.args.out.now.items),
       said,
       subst (λ m. LeadsOn (IsReported left)
-          (IsReported (record { asking = record { name = m.name.now; host = m.host.now }; pending = m.pending; tally = m.tally; closed = true; coming = m.blocks.coming }))
+          (IsReported (record { asking = record { name = m.name.now; host = m.host.now }; seen = m.seen; tally = m.tally; closed = true; coming = m.blocks.coming }))
           [] (closing was.name.now was.tally)) (sym first)
           (reported_closing left mid.blocks.coming c.if-self.false over),
       subst (λ m. LeadsOn (IsBegun left)
-          (IsBegun (record { asking = record { name = m.name.now; host = m.host.now }; pending = m.pending; tally = m.tally; closed = true; coming = m.blocks.coming }))
+          (IsBegun (record { asking = record { name = m.name.now; host = m.host.now }; seen = m.seen; tally = m.tally; closed = true; coming = m.blocks.coming }))
           [] (closing was.name.now was.tally)) (sym first)
           (begun_closing left mid.blocks.coming c.if-self.false over),
       (refl, refl),
@@ -98,6 +98,6 @@ returns-clause-ends g c =
     let none : c.in_ok-advance.field-0 ≡ false = search rules in
     let first = c.in_ok-advance.ensures.rest in
     let over : IsOver was.blocks.coming = if_false _ _ _ none c.in_ok-advance.ensures.block in
-    let left : Left = record { asking = record { name = was.name.now; host = was.host.now }; pending = was.pending; tally = was.tally; closed = was.closed; coming = was.blocks.coming } in
+    let left : Left = record { asking = record { name = was.name.now; host = was.host.now }; seen = was.seen; tally = was.tally; closed = was.closed; coming = was.blocks.coming } in
     λ ending ends. ends_closing left mid.blocks.coming c.if-self.false over ending
-    (subst (λ m. EndsSo (record { asking = record { name = m.name.now; host = m.host.now }; pending = m.pending; tally = m.tally; closed = true; coming = m.blocks.coming }) ending) first ends)
+    (subst (λ m. EndsSo (record { asking = record { name = m.name.now; host = m.host.now }; seen = m.seen; tally = m.tally; closed = true; coming = m.blocks.coming }) ending) first ends)
