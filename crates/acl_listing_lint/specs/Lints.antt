@@ -1,5 +1,5 @@
 -- What `lint` answers of the blocks of a listing.
-use Rattle.std.specs.Prelude.{◌≡◌, ◌⊎◌, ◌&&◌, ℕ, Bool, not, List, [], ◌∷◌, ◌++◌, Option, None}
+use Rattle.std.specs.Prelude.{◌≡◌, ◌⊎◌, ◌&&◌, ℕ, Bool, not, List, [], ◌∷◌, ◌++◌, Option}
 use Rattle.std.specs.Prelude.{IfSome}
 use Rattle.acl_cli.specs.Commands.{Answer}
 use Rattle.acl_cli.specs.Reporting.{is_empty}
