@@ -33,3 +33,15 @@ pub reported_more : (before after : Option (List ℕ)) (shown more : List ℕ) �
 reported_more None after shown more taken = tt
 reported_more (Some reported) None shown more taken = absurd taken
 reported_more (Some reported) (Some rest) shown more taken = append_assoc shown more rest ∙ ap (λ t. shown ++ t) (sym taken)
+
+-- no more was read, behind the bytes at hand
+pub reported_same : (before after : Option (List ℕ)) (shown : List ℕ) → Keeps before after → Keeps (prepend_known shown before) (prepend_known shown after)
+reported_same None after shown kept = tt
+reported_same (Some reported) None shown kept = absurd kept
+reported_same (Some reported) (Some rest) shown kept = ap (λ t. shown ++ t) kept
+
+-- the bytes at the front alone
+pub still_shown : (buffer shown : List ℕ) (len : ℕ) → take len buffer ≡ shown → slice_range buffer 0 len ≡ shown
+still_shown buffer shown len front =
+    let whole : len - 0 ≡ len = omega arith in
+    ap (λ n. take n buffer) whole ∙ front
