@@ -1,9 +1,9 @@
 //! Lists in XDR (RFC 4506) as entries of numbers in a caller's buffer, with all bits that have a
-//! meaning. It takes no memory: up to 16 entries are read into a list on the stack and copied from
+//! meaning. It takes no memory: up to 128 entries are read into a list on the stack and copied from
 //! there. The bytes of more are read once to know that they are a list, and once more to put it.
 
 ghost use Rattle.std.specs.Prelude.{◌≡◌, ◌≤◌, ◌++◌, ℕ, List, [], Ok, drop, length};
-ghost use Rattle.acl_nfs4.specs.declared.limits.TheConstants.{INLINE_ACES};
+ghost use Rattle.acl_nfs4.specs.declared.limits.TheConstants.{MAX_ACES};
 ghost use Rattle.acl_wire.specs.Numbers.{Reads};
 ghost use Rattle.acl_wire.specs.XdrRaws.{PutsItems, fault_in, raws_at, whole, xdr_raws_of};
 ghost use Rattle.acl_wire.specs.declared.raw_ace.RawAce.{RawAce as Raw};
@@ -12,16 +12,17 @@ use crate::draft::write_raws;
 use crate::raw_ace::{tidied, value_of};
 use crate::xdr::{number_at, raw_at};
 use crate::{Nfs4Fault, RawAce};
-use acl_nfs4::INLINE_ACES;
+use acl_nfs4::{INLINE_ACES, MAX_ACES};
 use arrayvec::ArrayVec;
 
-/// As many entries as are stored inline. They take no memory.
-type FewRaws = ArrayVec<RawAce, INLINE_ACES>;
-
 /// Reads so many entries, which are to be all of the bytes.
-fn read_raws(count: u32, bytes: &[u8], draft: &mut FewRaws) -> Result<(), Nfs4Fault>
+fn read_raws<const N: usize>(
+    count: u32,
+    bytes: &[u8],
+    draft: &mut ArrayVec<RawAce, N>,
+) -> Result<(), Nfs4Fault>
     requires empty { draft.old.items ≡ [] }
-    requires few { count ≤ INLINE_ACES }
+    requires few { count ≤ N }
     ensures { Reads (λ _. draft.new.items) result (whole (raws_at count bytes.now)) }
 {
     let mut rest = bytes;
@@ -40,13 +41,15 @@ fn read_raws(count: u32, bytes: &[u8], draft: &mut FewRaws) -> Result<(), Nfs4Fa
     }
 }
 
-/// Puts few entries, which are read once.
+/// Puts at most `N` entries, which are read once. Never inlined, so that short lists don't pay for
+/// the room of long ones.
 #[inline(never)]
-fn put_few(count: u32, bytes: &[u8], out: &mut [RawAce]) -> Result<usize, Nfs4Fault>
-    requires { count ≤ INLINE_ACES }
+fn put_few<const N: usize>(count: u32, bytes: &[u8], out: &mut [RawAce]) -> Result<usize, Nfs4Fault>
+    requires few { count ≤ N }
+    requires most { N ≤ MAX_ACES }
     ensures { PutsItems (whole (raws_at count bytes.now)) result out.old out.new }
 {
-    let mut draft = FewRaws::new();
+    let mut draft = ArrayVec::<RawAce, N>::new();
     read_raws(count, bytes, &mut draft)?;
     Ok(write_raws(draft.as_slice(), out))
 }
@@ -114,7 +117,9 @@ pub fn put_xdr_raws(bytes: &[u8], out: &mut [RawAce]) -> Result<usize, Nfs4Fault
 {
     let (count, rest) = number_at(bytes)?;
     if count <= INLINE_ACES as u32 {
-        put_few(count, rest, out)
+        put_few::<INLINE_ACES>(count, rest, out)
+    } else if count <= MAX_ACES as u32 {
+        put_few::<MAX_ACES>(count, rest, out)
     } else {
         put_many(count, rest, out)
     }
