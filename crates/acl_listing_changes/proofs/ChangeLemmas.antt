@@ -15,12 +15,14 @@ use Rattle.acl_listings.specs.Block.{path_of}
 use Rattle.acl_listings.specs.Cursor.{HandsOut, IsOver, blocks_to_come}
 use Rattle.acl_listings.specs.Listing.{Block}
 use Rattle.acl_listings.specs.declared.fault.BlockFault.{BlockFault}
-use Rattle.acl_reports.specs.Listed.{closing, ending_of, fault_in, no_blocks, with_item}
+use Rattle.acl_reports.specs.Listed.{counted, ending_of, fault_in, last_lines, no_blocks, with_item, with_stranger_of}
 use Rattle.acl_reports.specs.Paths.{block_for, first_path, lists, or_first}
 use Rattle.acl_reports.specs.Placed.{Placed, in_places, in_places_after}
+use Rattle.acl_reports.specs.Strangers.{no_strangers, with_stranger}
+use Rattle.acl_reports.specs.declared.strangers.Strangers.{Strangers}
 use Rattle.acl_reports.specs.declared.tally.Tally.{Tally}
-use Rattle.acl_listing_changes.specs.ChangeSteps.{Appended, AreMet, BeginsLeft, Closing, EndsLeft, HandsOn, Here, IsLast, IsOpening, IsStep, Left, Missing, Opening, SeenValue, ReportsLeft, ReportsMissing, ReportsReported, Reported, counted, fault_here, final_tally, left_to_report, missing_from, nothing_seen, seen_on, reported_from}
-use Rattle.acl_listing_changes.specs.Changes.{After, Before, Gone, IsChangeAnswer, IsChangeBegun, Named, Next, OfAfter, Step, ReportsEach, ReportsIf, ReportsNextBy, ReportsStep, Wording, apart_by, ending_of_both, fault_after, fault_before, item_of, items_after, items_before, items_of, part_of, steps_of, tally_of, unless_repeated, with_difference}
+use Rattle.acl_listing_changes.specs.ChangeSteps.{Appended, AreMet, BeginsLeft, Closing, EndsLeft, HandsOn, Here, IsLast, IsOpening, IsStep, Left, Missing, Opening, SeenValue, ReportsLeft, ReportsMissing, ReportsReported, Reported, fault_here, final_tally, left_to_report, missing_from, nothing_seen, seen_on, reported_from}
+use Rattle.acl_listing_changes.specs.Changes.{After, Before, Gone, IsChangeAnswer, IsChangeBegun, Named, Next, OfAfter, Step, ReportsEach, ReportsIf, ReportsNextBy, ReportsStep, Wording, apart_by, apart_text, ending_of_both, fault_after, fault_before, item_of, items_after, items_before, items_of, part_of, steps_of, strangers_of, tally_of, unless_repeated, with_difference}
 use Rattle.acl_listing_changes.specs.Kept.{place_of}
 use Rattle.acl_listing_changes.specs.declared.between.progress.Stage.TheVariants as stage
 use Rattle.acl_listing_changes.proofs.FirstPathLemmas.{first_more}
@@ -176,11 +178,19 @@ tally_more fault earlier block =
     ap tally_of (items_more fault earlier block) ∙ fold-append with_item no_blocks (items_of fault earlier) (item_of fault (put earlier block) ∷ [])
     ∙ counted_as (tally_of (items_of fault earlier)) block (fault (put earlier block))
 
+-- and which name ids without an account
+pub strangers_more : (wording : Wording) (fault : Placed Block → Option BlockFault) (earlier : List Block) (block : Block)
+    → strangers_of wording (items_of fault (earlier ++ block ∷ [])) ≡ with_stranger (strangers_of wording (items_of fault earlier)) block.line (wording.stranger block.text)
+strangers_more wording fault earlier block =
+    ap (strangers_of wording) (items_more fault earlier block)
+    ∙ fold-append (with_stranger_of wording.stranger) no_strangers (items_of fault earlier) (item_of fault (put earlier block) ∷ [])
+
 module _ (wording : Wording) (before : Named) where
   -- it was seen of these blocks
   pub record IsSeen (earlier : List Block) (seen : SeenValue) : Type 0 where
     pub met : AreMet before.blocks earlier seen.met
     pub tally : seen.tally ≡ tally_of (items_of (fault_after wording before.blocks) earlier)
+    pub strangers : seen.strangers ≡ strangers_of wording (items_of (fault_after wording before.blocks) earlier)
     pub first : seen.first ≡ first_path earlier
     pub known : seen.known ≡ list_any (λ block. lists before.blocks block.text) earlier
 
@@ -189,7 +199,7 @@ module _ (wording : Wording) (before : Named) where
   fault_is earlier seen is block = ap (λ b. unless_repeated b (wording.fault block.text)) (marks_repeat before.blocks earlier seen.met is.met block.text)
 
   pub seen_none : IsSeen [] (nothing_seen (length before.blocks))
-  seen_none = record { met = none_met before.blocks; tally = refl; first = refl; known = refl }
+  seen_none = record { met = none_met before.blocks; tally = refl; strangers = refl; first = refl; known = refl }
 
   seen_more : (earlier : List Block) (seen : SeenValue) → IsSeen earlier seen → (block : Block) → IsSeen (earlier ++ block ∷ []) (seen_on wording before.blocks seen block)
   seen_more earlier seen is block = record {
@@ -197,6 +207,8 @@ module _ (wording : Wording) (before : Named) where
     tally = ap (λ tally. counted tally block.text (fault_here wording before.blocks seen.met block.text)) is.tally
         ∙ ap (counted (tally_of (items_of (fault_after wording before.blocks) earlier)) block.text) (fault_is earlier seen is block)
         ∙ sym (tally_more (fault_after wording before.blocks) earlier block);
+    strangers = ap (λ strangers. with_stranger strangers block.line (wording.stranger block.text)) is.strangers
+        ∙ sym (strangers_more wording (fault_after wording before.blocks) earlier block);
     first = ap (λ first. or_first first (path_of block.text)) is.first ∙ sym (first_more earlier block);
     known = ap (λ known. known || is_some (place_of before.blocks block.text)) is.known
         ∙ ap (λ known. list_any (λ block. lists before.blocks block.text) earlier || known) (place_known before.blocks block.text ∙ sym (or-false (lists before.blocks block.text)))
@@ -265,9 +277,10 @@ module _ (wording : Wording) (before : Named) where
     end_there seen is reported said (none, same) = (
       none,
       same
-          ∙ ap (λ known. apart_by wording known (first_path before.blocks) seen.first ++ closing after.name seen.tally) is.known
-          ∙ ap (λ first. apart_by wording (list_any (λ block. lists before.blocks block.text) after.blocks) (first_path before.blocks) first ++ closing after.name seen.tally) is.first
-          ∙ ap (λ tally. apart_by wording (list_any (λ block. lists before.blocks block.text) after.blocks) (first_path before.blocks) (first_path after.blocks) ++ closing after.name tally) is.tally,
+          ∙ ap (λ known. apart_by wording known (first_path before.blocks) seen.first ++ last_lines after.name seen.tally seen.strangers) is.known
+          ∙ ap (λ first. apart_by wording (list_any (λ block. lists before.blocks block.text) after.blocks) (first_path before.blocks) first ++ last_lines after.name seen.tally seen.strangers) is.first
+          ∙ ap (λ tally. apart_text wording before.blocks after.blocks ++ last_lines after.name tally seen.strangers) is.tally
+          ∙ ap (λ strangers. apart_text wording before.blocks after.blocks ++ last_lines after.name (tally_of (items_after wording before after)) strangers) is.strangers,
     )
 
     like_from : (earlier coming : List Block) (seen : SeenValue) → IsSeen earlier seen → after.blocks ≡ earlier ++ coming
@@ -280,15 +293,20 @@ module _ (wording : Wording) (before : Named) where
       like_from (earlier ++ block ∷ []) coming (seen_on wording before.blocks seen block) (seen_more earlier seen is block) (whole ∙ sym (append_assoc earlier (block ∷ []) coming)),
     )
 
-    opening_there : (text : List ℕ) (tally : Tally) → IsOpening wording before text tally → (reported said : List ℕ) → Reports (Opening text) reported said → Means Before reported said
-    opening_there text tally opening reported said (none, same) = (
+    opening_there : (text : List ℕ) (tally : Tally) (strangers : Strangers) → IsOpening wording before text tally strangers → (reported said : List ℕ) → Reports (Opening text) reported said → Means Before reported said
+    opening_there text tally strangers opening reported said (none, same) = (
       none,
-      (opening.faults, opening.faults_are, same ∙ opening.said_is ∙ ap (λ tally. opening.faults ++ closing before.name tally) opening.tally_is),
+      (
+        opening.faults,
+        opening.faults_are,
+        same ∙ opening.said_is ∙ ap (λ tally. opening.faults ++ last_lines before.name tally strangers) opening.tally_is
+            ∙ ap (λ strangers. opening.faults ++ last_lines before.name (tally_of (items_before wording before)) strangers) opening.strangers_are,
+      ),
     )
 
-    pub like_steps : (text : List ℕ) (tally : Tally) → IsOpening wording before text tally
+    pub like_steps : (text : List ℕ) (tally : Tally) (strangers : Strangers) → IsOpening wording before text tally strangers
         → AreLike Reports Means (Opening text ∷ reported_from wording before.blocks (nothing_seen (length before.blocks)) after.blocks) (steps_of before after)
-    like_steps text tally opening = (opening_there text tally opening, like_from [] after.blocks (nothing_seen (length before.blocks)) seen_none refl)
+    like_steps text tally strangers opening = (opening_there text tally strangers opening, like_from [] after.blocks (nothing_seen (length before.blocks)) seen_none refl)
 
     -- what was counted in the end
     pub final_seen : (fold (seen_on wording before.blocks) (nothing_seen (length before.blocks)) after.blocks).tally ≡ tally_of (items_after wording before after)
@@ -323,7 +341,7 @@ pub ended_gone : (wording : Wording) (before : List Block) (left : Left) (place 
     → EndsLeft wording before left ending
 ended_gone wording before left place is ending ends = subst (λ (left : Left). EndsLeft wording before left ending) (sym (ap (λ stage. record left { stage = stage }) is)) ends
 
-module _ (wording : Wording) (before : Named) (name opening : List ℕ) (tally : Tally) (opened : IsOpening wording before opening tally)
+module _ (wording : Wording) (before : Named) (name opening : List ℕ) (tally : Tally) (strangers : Strangers) (opened : IsOpening wording before opening tally strangers)
     (seen : SeenValue) (block : Block) (coming : Option (List Block)) (seen_is : seen ≡ nothing_seen (length before.blocks))
     (bytes : Option (List ℕ)) (coming_is : coming ≡ blocks_to_come 1 bytes) where
   abbrev pub begun_with : SeenValue → Option (List Block) → Left
@@ -349,7 +367,7 @@ module _ (wording : Wording) (before : Named) (name opening : List ℕ) (tally :
       by (Some blocks) (count, steps) = record {
         count = count;
         first = front_like (ReportsReported wording name before.blocks) (ReportsStep wording before (of_blocks blocks)) (Opening opening ∷ reported_from wording before.blocks (nothing_seen (length before.blocks)) blocks) (steps_of before (of_blocks blocks))
-            (like_steps wording before (of_blocks blocks) opening tally opened) count text said steps;
+            (like_steps wording before (of_blocks blocks) opening tally strangers opened) count text said steps;
       }
 
   -- all of it is a front
@@ -369,7 +387,7 @@ module _ (wording : Wording) (before : Named) (name opening : List ℕ) (tally :
         by None reports ends = tt
         by (Some blocks) reports ends = record {
           each = each_like (ReportsReported wording name before.blocks) (ReportsStep wording before (of_blocks blocks)) (Opening opening ∷ reported_from wording before.blocks (nothing_seen (length before.blocks)) blocks) (steps_of before (of_blocks blocks))
-              (like_steps wording before (of_blocks blocks) opening tally opened) text said reports;
+              (like_steps wording before (of_blocks blocks) opening tally strangers opened) text said reports;
           ending = ending_is
               ∙ ap (λ some. with_difference (wording.asks && some) (ending_of_both (ending_of tally) second)) some_is
               ∙ ap (λ tally. with_difference (wording.asks && not (is_empty text)) (ending_of_both (ending_of tally) second)) opened.tally_is
@@ -406,7 +424,7 @@ module _ (wording : Wording) (name : List ℕ) (before : List Block) where
 
   pub step_closing : (old mid new : Left) → old.stage ≡ stage.After → IsOver old.coming → mid ≡ record old { block = mid.block; coming = mid.coming }
       → new ≡ record mid { stage = stage.Gone 0 } → (out beside beside' : List ℕ)
-      → beside' ≡ beside ++ (apart_by wording mid.seen.known (first_path before) mid.seen.first ++ closing name mid.seen.tally) → IsStep wording name before old new out out beside beside'
+      → beside' ≡ beside ++ (apart_by wording mid.seen.known (first_path before) mid.seen.first ++ last_lines name mid.seen.tally mid.seen.strangers) → IsStep wording name before old new out out beside beside'
   step_closing old mid new is over is_mid is_new out beside beside' said =
       let seen : mid.seen ≡ old.seen = ap (λ (left : Left). left.seen) is_mid in
       let whole : new ≡ record old { block = mid.block; coming = mid.coming; stage = stage.Gone 0 } = is_new ∙ ap (λ (left : Left). record left { stage = stage.Gone 0 }) is_mid in
@@ -416,10 +434,10 @@ module _ (wording : Wording) (name : List ℕ) (before : List Block) where
         hands = both.0;
         appended = record {
           reported = [];
-          said = apart_by wording old.seen.known (first_path before) old.seen.first ++ closing name old.seen.tally;
+          said = apart_by wording old.seen.known (first_path before) old.seen.first ++ last_lines name old.seen.tally old.seen.strangers;
           reports = (refl, refl);
           out_is = sym (append-nil out);
-          beside_is = said ∙ ap (λ (seen : SeenValue). beside ++ (apart_by wording seen.known (first_path before) seen.first ++ closing name seen.tally)) seen;
+          beside_is = said ∙ ap (λ (seen : SeenValue). beside ++ (apart_by wording seen.known (first_path before) seen.first ++ last_lines name seen.tally seen.strangers)) seen;
         };
         final = both.1;
       }

@@ -11,4 +11,5 @@ pub mod ComesLemmas
 pub mod FirstPathLemmas
 pub mod AlikeLemmas
 pub mod ImpactLemmas
+pub mod StrangerLemmas
 pub mod CompareLemmas

@@ -1,22 +1,26 @@
 -- How it is reported for two listings block by block. Private steps, which no public clause cites.
-use Rattle.std.specs.Prelude.{◌≡◌, ◌<◌, ◌+◌, ◌-◌, ℕ, zero, suc, Bool, true, false, not, ◌&&◌, ◌||◌}
-use Rattle.std.specs.Prelude.{List, [], ◌∷◌, ◌++◌, Option, Some, None, IfSome, get_or, is_none}
-use Rattle.std.specs.Prelude.{is_some, length, nat_eq, option_map, replicate, set, slice_get}
-use Rattle.std.specs.Prelude.{take}
+use Rattle.std.specs.Prelude.{◌≡◌, ◌<◌, ◌+◌, ◌-◌, ℕ, zero, suc, Bool, true, false, not, ◌&&◌}
+use Rattle.std.specs.Prelude.{◌||◌, List, [], ◌∷◌, ◌++◌, Option, Some, None, IfSome, get_or}
+use Rattle.std.specs.Prelude.{is_none, is_some, length, nat_eq, option_map, replicate, set}
+use Rattle.std.specs.Prelude.{slice_get, take}
 use Rattle.std.specs.List.{fold, list_any}
 use Rattle.std.specs.Option.{option_and_then, option_map_or}
 use Rattle.acl_cli.specs.declared.command.Ending.{Ending}
 use Rattle.acl_listings.specs.Block.{path_of}
 use Rattle.acl_listings.specs.Listing.{Block}
 use Rattle.acl_listings.specs.declared.fault.BlockFault.{BlockFault}
-use Rattle.acl_reports.specs.Listed.{AreSaid, closing, ending_of, first_guess}
-use Rattle.acl_reports.specs.Listed.{is_fault, is_unread, no_blocks}
+use Rattle.acl_reports.specs.Listed.{AreSaid, counted, ending_of, last_lines, no_blocks}
 use Rattle.acl_reports.specs.Paths.{block_for, first_path, or_first}
+use Rattle.acl_reports.specs.Strangers.{no_strangers, with_stranger}
+use Rattle.acl_reports.specs.declared.stranger.Stranger.{Stranger}
+use Rattle.acl_reports.specs.declared.strangers.Strangers.{Strangers}
 use Rattle.acl_reports.specs.declared.tally.Tally.{Tally}
 use Rattle.acl_listing_changes.specs.Changes.{Named, ReportsEach, ReportsIf, ReportsNextBy, Wording}
 use Rattle.acl_listing_changes.specs.Changes.{apart_by, fault_before, items_before, items_of}
-use Rattle.acl_listing_changes.specs.Changes.{tally_of, unless_repeated}
+use Rattle.acl_listing_changes.specs.Changes.{strangers_of, tally_of, unless_repeated}
 use Rattle.acl_listing_changes.specs.Kept.{place_of}
+use Rattle.acl_listing_changes.specs.declared.between.known.Known.{Known}
+use Rattle.acl_listing_changes.specs.declared.between.known.Known.TheVariants as known
 use Rattle.acl_listing_changes.specs.declared.between.progress.Stage.{Stage}
 use Rattle.acl_listing_changes.specs.declared.between.progress.Stage.TheVariants as stage
 
@@ -32,30 +36,60 @@ pub record Appended (Reports : List ℕ → List ℕ → Type 0) (out out' besid
 -- ---- the listing before
 
 -- the text is what is said of it, and so much was counted
-pub record IsOpening (wording : Wording) (before : Named) (said : List ℕ) (tally : Tally) : Type 0
-  where
-    pub faults : List ℕ
-    pub faults_are : AreSaid before.name wording.names (items_before wording before) faults
-    pub tally_is : tally ≡ tally_of (items_before wording before)
-    pub said_is : said ≡ faults ++ closing before.name tally
+pub record IsOpening (wording : Wording) (before : Named) (said : List ℕ) (tally : Tally)
+    (strangers : Strangers) : Type 0 where
+  pub faults : List ℕ
+  pub faults_are : AreSaid before.name wording.names (items_before wording before) faults
+  pub tally_is : tally ≡ tally_of (items_before wording before)
+  pub strangers_are : strangers ≡ strangers_of wording (items_before wording before)
+  pub said_is : said ≡ faults ++ last_lines before.name tally strangers
 
 -- of its first blocks
 pub record IsOpenedTo (wording : Wording) (name : List ℕ) (blocks : List Block) (place : ℕ)
-    (said : List ℕ) (tally : Tally) : Type 0 where
+    (said : List ℕ) (tally : Tally) (strangers : Strangers) : Type 0 where
   pub said_are : AreSaid name wording.names
       (items_of (fault_before wording) (take place blocks)) said
   pub tally_is : tally ≡ tally_of (items_of (fault_before wording) (take place blocks))
+  pub strangers_are : strangers
+      ≡ strangers_of wording (items_of (fault_before wording) (take place blocks))
 
 -- the mark of a place that was found
 abbrev pub is_marked : List Bool → Option ℕ → Bool
 is_marked marks None = false
 is_marked marks (Some place) = get_or marks place false
 
--- at the places that are marked nothing is wrong with the block before by itself
-abbrev pub AreRead : Wording → List Block → List Bool → Type 0
-AreRead wording before reads = (place : Option ℕ) (block : Block)
-    → option_and_then (slice_get before) place ≡ Some block → is_marked reads place ≡ true
-    → wording.fault block.text ≡ None
+-- whether it is known that nothing is wrong with a block; and that it names such an id
+abbrev pub is_read : Known → Bool
+is_read known.Nothing = false
+is_read known.Plain = true
+is_read known.Strange = true
+
+abbrev pub names_id : Known → Bool
+names_id known.Nothing = false
+names_id known.Plain = false
+names_id known.Strange = true
+
+-- this is so of one with this text
+abbrev pub IsKnown : Wording → List ℕ → Known → Type 0
+IsKnown wording text what = is_read what ≡ true
+    → (wording.fault text ≡ None) × (is_some (wording.stranger text) ≡ names_id what)
+
+-- and of one with which this is wrong, if anything is, and which names this id first
+abbrev pub known_by : Option BlockFault → Option Stranger → Known
+known_by (Some fault) stranger = known.Nothing
+known_by None None = known.Plain
+known_by None (Some stranger) = known.Strange
+
+-- of the block at a place that was found
+abbrev pub known_at : List Known → Option ℕ → Known
+known_at all None = known.Nothing
+known_at all (Some place) = get_or all place known.Nothing
+
+-- of each block before
+abbrev pub AreKnown : Wording → List Block → List Known → Type 0
+AreKnown wording before all = (place : Option ℕ) (block : Block)
+    → option_and_then (slice_get before) place ≡ Some block
+    → IsKnown wording block.text (known_at all place)
 
 -- ---- which blocks before were met
 
@@ -84,6 +118,7 @@ pub record SeenValue : Type 0 where
   -- which blocks before were met
   pub met : List Bool
   pub tally : Tally
+  pub strangers : Strangers
   -- the first path
   pub first : Option (List ℕ)
   -- whether the listing before has a path of it
@@ -93,24 +128,19 @@ abbrev pub nothing_seen : ℕ → SeenValue
 nothing_seen count = record {
   met = replicate count false;
   tally = no_blocks;
+  strangers = no_strangers;
   first = None;
   known = false;
 }
 
--- one block more
-abbrev pub counted : Tally → List ℕ → Option BlockFault → Tally
-counted tally text fault = record {
-  blocks = tally.blocks + 1;
-  faults = tally.faults + is_fault fault;
-  unread = tally.unread + is_unread fault;
-  guess = first_guess tally.guess text;
-}
-
-abbrev pub with_seen : SeenValue → Option ℕ → List ℕ → Option BlockFault → SeenValue
-with_seen seen place text fault = record {
+-- one block more, with which this is wrong, if anything is, and which names this id first
+abbrev pub with_seen : SeenValue → Option ℕ → Block → Option BlockFault → Option Stranger
+    → SeenValue
+with_seen seen place block fault stranger = record {
   met = with_mark seen.met place;
-  tally = counted seen.tally text fault;
-  first = or_first seen.first (path_of text);
+  tally = counted seen.tally block.text fault;
+  strangers = with_stranger seen.strangers block.line stranger;
+  first = or_first seen.first (path_of block.text);
   known = seen.known || is_some place;
 }
 
@@ -120,8 +150,8 @@ fault_here wording before met text =
     unless_repeated (is_marked met (place_of before text)) (wording.fault text)
 
 abbrev pub seen_on : Wording → List Block → SeenValue → Block → SeenValue
-seen_on wording before seen block = with_seen seen (place_of before block.text) block.text
-    (fault_here wording before seen.met block.text)
+seen_on wording before seen block = with_seen seen (place_of before block.text) block
+    (fault_here wording before seen.met block.text) (wording.stranger block.text)
 
 -- ---- what is left to report
 
@@ -177,7 +207,7 @@ ReportsReported wording name before (Here seen block) reported said = ReportsNex
     (fault_here wording before seen.met block.text) reported said
 ReportsReported wording name before (Closing seen) reported said = (reported ≡ [])
     × (said ≡ apart_by wording seen.known (first_path before) seen.first
-    ++ closing name seen.tally)
+    ++ last_lines name seen.tally seen.strangers)
 ReportsReported wording name before (Missing met place) reported said =
     ReportsMissing wording before met place reported said
 

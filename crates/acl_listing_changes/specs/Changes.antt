@@ -12,10 +12,13 @@ use Rattle.acl_listings.specs.Listing.{Block}
 use Rattle.acl_listings.specs.declared.fault.BlockFault.{BlockFault}
 use Rattle.acl_listings.specs.declared.fault.BlockFault.TheVariants.{TooLong, BadHeader}
 use Rattle.acl_listings.specs.declared.fault.BlockFault.TheVariants.{RepeatedPath}
-use Rattle.acl_reports.specs.Listed.{AreSaid, IsFaultLine, Item, Part, closing, ending_of}
-use Rattle.acl_reports.specs.Listed.{no_blocks, tally_with}
+use Rattle.acl_reports.specs.Listed.{AreSaid, IsFaultLine, Item, Part, ending_of, last_lines}
+use Rattle.acl_reports.specs.Listed.{no_blocks, strangers_with, tally_with}
 use Rattle.acl_reports.specs.Paths.{block_for, first_path, lists}
 use Rattle.acl_reports.specs.Placed.{Placed, in_places}
+use Rattle.acl_reports.specs.Strangers.{no_strangers}
+use Rattle.acl_reports.specs.declared.stranger.Stranger.{Stranger}
+use Rattle.acl_reports.specs.declared.strangers.Strangers.{Strangers}
 use Rattle.acl_reports.specs.declared.tally.Tally.{Tally}
 
 -- How changes are reported: each relation is of blocks' texts, of what is reported on standard
@@ -25,6 +28,8 @@ pub record Wording : Type 1 where
   pub names : Names
   -- what is wrong with a block by itself, if anything is
   pub fault : List ℕ → Option BlockFault
+  -- which id without an account a block names first, if one
+  pub stranger : List ℕ → Option Stranger
   -- of a block after whose path is new
   pub IsNew : List ℕ → List ℕ → List ℕ → Type 0
   -- of a block before, and of the one after that has its path
@@ -68,6 +73,14 @@ items_of fault blocks = map (item_of fault) (in_places blocks)
 
 abbrev pub tally_of : List Item → Tally
 tally_of items = tally_with no_blocks items
+
+-- which of them name ids without an account
+abbrev pub strangers_of : Wording → List Item → Strangers
+strangers_of wording items = strangers_with wording.stranger no_strangers items
+
+-- all that is said at the end of a listing of this name with these items
+abbrev pub closing_of : Wording → List ℕ → List Item → List ℕ
+closing_of wording name items = last_lines name (tally_of items) (strangers_of wording items)
 
 -- this is reported and said if it holds, and else nothing
 abbrev pub ReportsIf : Bool → (List ℕ → List ℕ → Type 0) → List ℕ → List ℕ → Type 0
@@ -123,9 +136,9 @@ items_before wording before = items_of (fault_before wording) before.blocks
 abbrev pub items_after : Wording → Named → Named → List Item
 items_after wording before after = items_of (fault_after wording before.blocks) after.blocks
 
--- What is reported, one after the other: the faults of the listing before, and how many there are;
--- each block of the listing after; how many of these are faults; and each block before, whose path
--- may be gone.
+-- What is reported, one after the other: the faults of the listing before, how many there are, and
+-- which ids without an account it names; each block of the listing after; the same at its end; and
+-- each block before, whose path may be gone.
 pub data Step : Type 0 where
   Before : Step
   Next : Placed Block → Step
@@ -139,12 +152,12 @@ steps_of before after = Before ∷ (map Next (in_places after.blocks)
 abbrev pub ReportsStep : Wording → Named → Named → Step → List ℕ → List ℕ → Type 0
 ReportsStep wording before after Before reported said = (reported ≡ []) × ((faults : List ℕ)
     × AreSaid before.name wording.names (items_before wording before) faults
-    × (said ≡ faults ++ closing before.name (tally_of (items_before wording before))))
+    × (said ≡ faults ++ closing_of wording before.name (items_before wording before)))
 ReportsStep wording before after (Next placed) reported said =
     ReportsNext wording after.name before.blocks placed reported said
 ReportsStep wording before after After reported said = (reported ≡ [])
     × (said ≡ apart_text wording before.blocks after.blocks
-    ++ closing after.name (tally_of (items_after wording before after)))
+    ++ closing_of wording after.name (items_after wording before after))
 ReportsStep wording before after (Gone placed) reported said =
     ReportsGone wording after.blocks placed reported said
 

@@ -12,6 +12,7 @@ use Rattle.acl_people.specs.HostFailures.{IsHostFailure}
 use Rattle.acl_people.specs.People.{IsAskedFailure, asked_in}
 use Rattle.acl_people.specs.Person.{Person}
 use Rattle.acl_reports.specs.ListingMeaning.{bytes_named, inputs_of}
+use Rattle.acl_reports.specs.Strangers.{stranger_in}
 use Rattle.acl_listing_changes.specs.ChangeMeaning.{FailsForListings, after_in, before_in}
 use Rattle.acl_listing_changes.specs.ChangeMeaning.{is_input_twice}
 use Rattle.acl_listing_changes.specs.Changes.{IsChangeAnswer, IsChangeBegun, Named, OfListings}
@@ -35,13 +36,14 @@ concern_in persons rows = record {
 abbrev pub impact_asked : Host → List Person → List Row → ImpactAsking
 impact_asked host persons rows = record {
   names = names_of_host host;
+  stranger = stranger_in host;
   concern = concern_in persons rows;
   written = flag_in (codes "text") rows;
   asks = flag_in (codes "exit-code") rows;
 }
 
 -- the files give users and groups, the words the users to evaluate, and the answer follows from
--- both
+-- both, with which ids each listing names that no account has
 pub record ImpactAnswers (Is : Wording → Named → Named → Answer → Type 0)
     (bytes_of : Text → Option (List ℕ)) (input : Option (List ℕ)) (rows : List Row)
     (answer : Answer) : Type 0 where

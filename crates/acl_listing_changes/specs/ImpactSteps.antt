@@ -10,6 +10,7 @@ use Rattle.acl_listings.specs.Block.{FileValue}
 use Rattle.acl_listings.specs.declared.fault.BlockFault.{BlockFault}
 use Rattle.acl_people.specs.Host.{names_of_host}
 use Rattle.acl_people.specs.Person.{Person}
+use Rattle.acl_reports.specs.Strangers.{stranger_in}
 use Rattle.acl_listing_changes.specs.ImpactText.{person_text}
 use Rattle.acl_listing_changes.specs.Concerns.{concern_by}
 use Rattle.acl_listing_changes.specs.Impacting.{ImpactAsking, ReportsChange}
@@ -22,6 +23,7 @@ view_one one = record { name = one.name.now; who = one.requester.now }
 abbrev pub asking_by : ImpactReporter → ImpactAsking
 asking_by reporter = record {
   names = names_of_host reporter.host.now;
+  stranger = stranger_in reporter.host.now;
   concern = concern_by reporter.people.now reporter.each reporter.somebody;
   written = reporter.written;
   asks = reporter.asks;

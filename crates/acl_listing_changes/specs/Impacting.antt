@@ -18,6 +18,7 @@ use Rattle.acl_cli.specs.Reporting.{is_empty}
 use Rattle.acl_listings.specs.Block.{FileValue, file_by}
 use Rattle.acl_listings.specs.declared.fault.BlockFault.{BlockFault}
 use Rattle.acl_reports.specs.Files.{file_of}
+use Rattle.acl_reports.specs.declared.stranger.Stranger.{Stranger}
 use Rattle.acl_people.specs.Person.{Person}
 use Rattle.acl_listing_changes.specs.Changes.{Wording}
 use Rattle.acl_listing_changes.specs.ImpactText.{path_text, person_text, somebody_text}
@@ -31,10 +32,12 @@ pub record Concern : Type 0 where
   pub each : Bool
   pub somebody : Bool
 
--- the names that blocks have; whose lines are printed; whether a path whose block differs as read
--- has a line; and whether the exit status reports that there is a line
+-- the names that blocks have, and which id without an account a block names first; whose lines are
+-- printed; whether a path whose block differs as read has a line; and whether the exit status
+-- reports that there is a line
 pub record ImpactAsking : Type 0 where
   pub names : Names
+  pub stranger : List ℕ → Option Stranger
   pub concern : Concern
   pub written : Bool
   pub asks : Bool
@@ -152,6 +155,7 @@ abbrev pub impacting : ImpactAsking → Wording
 impacting asking = record {
   names = asking.names;
   fault = λ text. fault_of (file_by asking.names text);
+  stranger = asking.stranger;
   IsNew = λ text reported said. IfOk (file_by asking.names text) (λ file.
       (reported ≡ reported_new asking file) × (said ≡ []));
   IsChanged = λ old text reported said. IfOk (file_by asking.names old) (λ before.

@@ -7,6 +7,7 @@ use Rattle.acl_listings.specs.Block.{path_of}
 use Rattle.acl_listings.specs.declared.fault.BlockFault.{BlockFault}
 use Rattle.acl_listings.specs.declared.fault.BlockFault.TheVariants.{TooLong, BadHeader}
 use Rattle.acl_listings.specs.declared.limits.TheConstants.{MAX_BLOCK}
+use Rattle.acl_reports.specs.Strangers.{none_sought}
 use Rattle.acl_listing_changes.specs.Changes.{Wording}
 
 -- no name is known, and none is asked for
@@ -36,6 +37,7 @@ abbrev pub restoring : Wording
 restoring = record {
   names = no_names;
   fault = restore_fault;
+  stranger = none_sought;
   IsNew = λ text reported said. (reported ≡ []) × (said ≡ path_line text (codes "new"));
   IsChanged = λ old new reported said. (reported ≡ restored_text old new) × (said ≡ []);
   IsGone = λ old reported said. (reported ≡ []) × (said ≡ path_line old (codes "gone"));

@@ -3,6 +3,7 @@
 mod changes;
 mod faults;
 mod kept;
+mod known;
 mod marks;
 mod named;
 mod opening;
@@ -13,6 +14,7 @@ mod sides;
 
 pub use changes::{ending_of_both, with_difference};
 pub use faults::unless_repeated;
+pub(crate) use known::Known;
 pub(crate) use named::report_between;
 pub use named::{after_field, before_field, is_input_twice, open_listing};
-pub(crate) use reporter::ChangeReporter;
+pub(crate) use reporter::{ChangeReporter, Found};

@@ -95,13 +95,17 @@ abbrev pub first_guess : Option Guess → List ℕ → Option Guess
 first_guess (Some guess) text = Some guess
 first_guess None text = Some (guess_of text)
 
-abbrev pub with_item : Tally → Item → Tally
-with_item tally item = record {
+-- a block more with this text, of which this is wrong, if anything is
+abbrev pub counted : Tally → List ℕ → Option BlockFault → Tally
+counted tally text fault = record {
   blocks = tally.blocks + 1;
-  faults = tally.faults + is_fault (fault_in item.part);
-  unread = tally.unread + is_unread (fault_in item.part);
-  guess = first_guess tally.guess item.block.text;
+  faults = tally.faults + is_fault fault;
+  unread = tally.unread + is_unread fault;
+  guess = first_guess tally.guess text;
 }
+
+abbrev pub with_item : Tally → Item → Tally
+with_item tally item = counted tally item.block.text (fault_in item.part)
 
 abbrev pub tally_with : Tally → List Item → Tally
 tally_with tally items = fold with_item tally items

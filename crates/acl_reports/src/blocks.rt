@@ -9,19 +9,18 @@ ghost use Rattle.acl_listings.specs.Cursor.{HandsOut, IsOver};
 ghost use Rattle.acl_names.specs.Shown.{shown};
 ghost use Rattle.acl_people.specs.Host.{names_of_host};
 ghost use Rattle.acl_reports.specs.Listed.{AnswersNaming, BeginsNaming, IsFaultLine};
-ghost use Rattle.acl_reports.specs.Listed.{Part, fault_words, last_lines};
+ghost use Rattle.acl_reports.specs.Listed.{Part, fault_words};
 ghost use Rattle.acl_reports.specs.Reporting.{IsItemDone, IsItemReported, IsListingFailure};
 ghost use Rattle.acl_reports.specs.Reporting.{IsPart, UnlessMemory};
 
+use crate::counts::Counts;
 use crate::lines::push_fault_line;
 use crate::next_block::advance;
 use crate::stranger::Stranger;
-use crate::strangers::Strangers;
-use crate::tally::Tally;
 use acl_cli::{Ending, ErrorOutput, Failure, Reporting, RunFault, report_each};
 use acl_listings::{BlockFault, Blocks, FileFault, faulty_line};
 use acl_people::Host;
-use std::alloc::{AllocError, Global};
+use std::alloc::Global;
 use std::io::{Read, Write};
 
 /// Reports on the blocks of a listing, one after the other.
@@ -64,8 +63,7 @@ pub(crate) struct Listing<'n, 't, T: BlockReporter + Drop, R: Read + Drop> {
     host: &'t Host,
     reporter: T,
     blocks: Blocks<R>,
-    tally: Tally,
-    strangers: Strangers,
+    counts: Counts,
     /// Whether what is said at the end was said.
     closed: bool,
 }
@@ -174,8 +172,7 @@ impl<'n, 't, T: BlockReporter + Drop, R: Read + Drop> Listing<'n, 't, T, R> {
         ensures name { self.new.name ≡ self.old.name }
         ensures rest { OnOk result (self.new ≡ record self.old {
           reporter = self.new.reporter;
-          tally = self.new.tally;
-          strangers = self.new.strangers;
+          counts = self.new.counts;
         }) }
         ensures same { OnOk result (T.part self.new.reporter ≡ T.part self.old.reporter) }
         ensures same_strangers { OnOk result
@@ -189,9 +186,9 @@ impl<'n, 't, T: BlockReporter + Drop, R: Read + Drop> Listing<'n, 't, T, R> {
               block = self.old.blocks.block;
               part = T.part self.old.reporter earlier self.old.blocks.block.text;
             })
-            (T.stranger self.old.reporter self.old.blocks.block.text) self.old.tally self.new.tally
-            self.old.strangers self.new.strangers out.old.items out.new.items beside.old.items
-            beside.new.items) }
+            (T.stranger self.old.reporter self.old.blocks.block.text) self.old.counts.tally
+            self.new.counts.tally self.old.counts.strangers self.new.counts.strangers
+            out.old.items out.new.items beside.old.items beside.new.items) }
         ensures failed { IfErr result (IsListingFailure self.old.name.now) }
     {
         let line = self.blocks.line();
@@ -207,28 +204,14 @@ impl<'n, 't, T: BlockReporter + Drop, R: Read + Drop> Listing<'n, 't, T, R> {
             beside,
         )?;
         let found = self.reporter.found();
-        match (
-            self.tally.with(text, fault),
-            self.strangers.with(line, found),
-        ) {
-            (Some(tally), Some(strangers)) => {
-                self.tally = tally;
-                self.strangers = strangers;
+        match self.counts.with(line, text, fault, found) {
+            Some(counts) => {
+                self.counts = counts;
                 Ok(())
             }
             // No listing has so many blocks or lines.
-            _ => Err(Failure::Unread(self.name)),
+            None => Err(Failure::Unread(self.name)),
         }
-    }
-
-    /// Appends all that is said at the end.
-    fn push_last(&self, beside: &mut Vec<u8>) -> Result<(), AllocError>
-        ensures { OnOk result (beside.new.items ≡ beside.old.items
-            ++ last_lines self.now.name.now self.now.tally self.now.strangers) }
-    {
-        self.tally.push_closing(self.name, beside)?;
-        self.strangers
-            .push_line(self.name, self.tally.blocks, beside)
     }
 }
 
@@ -242,8 +225,8 @@ impl<'n, 't, T: BlockReporter + Drop, R: Read + Drop> Reporting<'n> for Listing<
       names = names_of_host listing.host.now;
       part = T.part listing.reporter;
       stranger = T.stranger listing.reporter;
-      tally = listing.tally;
-      strangers = listing.strangers;
+      tally = listing.counts.tally;
+      strangers = listing.counts.strangers;
       closed = listing.closed;
       coming = listing.blocks.coming;
     }) };
@@ -253,8 +236,8 @@ impl<'n, 't, T: BlockReporter + Drop, R: Read + Drop> Reporting<'n> for Listing<
       names = names_of_host listing.host.now;
       part = T.part listing.reporter;
       stranger = T.stranger listing.reporter;
-      tally = listing.tally;
-      strangers = listing.strangers;
+      tally = listing.counts.tally;
+      strangers = listing.counts.strangers;
       closed = listing.closed;
       coming = listing.blocks.coming;
     }) };
@@ -264,8 +247,8 @@ impl<'n, 't, T: BlockReporter + Drop, R: Read + Drop> Reporting<'n> for Listing<
       names = names_of_host listing.host.now;
       part = T.part listing.reporter;
       stranger = T.stranger listing.reporter;
-      tally = listing.tally;
-      strangers = listing.strangers;
+      tally = listing.counts.tally;
+      strangers = listing.counts.strangers;
       closed = listing.closed;
       coming = listing.blocks.coming;
     }) };
@@ -285,7 +268,7 @@ impl<'n, 't, T: BlockReporter + Drop, R: Read + Drop> Reporting<'n> for Listing<
             self.report_here(alloc, out, beside)?;
             return Ok(true);
         }
-        self.push_last(beside)?;
+        self.counts.push_last(self.name, beside)?;
         self.closed = true;
         Ok(true)
     }
@@ -324,13 +307,12 @@ where
         host,
         reporter,
         blocks,
-        tally: Tally::new(),
-        strangers: Strangers::new(),
+        counts: Counts::new(),
         closed: false,
     };
     report_each(alloc, &mut listing, out, err)?;
     if listing.closed {
-        Ok(listing.tally.ending())
+        Ok(listing.counts.ending())
     } else {
         // Everything is reported only after the closing lines.
         Err(Failure::Unread(name))

@@ -3,6 +3,7 @@
 #![tactic(auto)]
 
 mod blocks;
+mod counts;
 mod files;
 mod laws;
 mod lines;
@@ -14,9 +15,11 @@ mod strangers;
 mod tally;
 
 pub use blocks::{BlockReporter, push_fault, push_fault_at};
+pub use counts::Counts;
 pub use files::owners_and_list;
 pub use laws::closing_laws;
 pub use named::{INPUT, listing_field, report_named};
 pub use next_block::advance;
-pub use stranger::{Stranger, file_stranger};
+pub use stranger::{Stranger, file_stranger, stranger_behind};
+pub use strangers::{FirstStranger, Strangers};
 pub use tally::Tally;

@@ -227,8 +227,9 @@ fn group_stranger(host: &Host, line: &[u8]) -> Option<u32>
     }
 }
 
-/// The first that lines behind a block's first name.
-fn stranger_behind(host: &Host, lines: &[u8]) -> Option<Stranger>
+/// The first id without an account that the lines behind a block's first name. Of a block that
+/// reads, and whose file names such an id, this is what `file_stranger` finds.
+pub fn stranger_behind(host: &Host, lines: &[u8]) -> Option<Stranger>
     ensures { result ≡ stranger_behind host.now lines.now }
 {
     if let Some(id) = owner_stranger(host, before_byte(b'\n', lines)) {

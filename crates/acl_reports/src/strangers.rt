@@ -9,16 +9,16 @@ use std::alloc::AllocError;
 
 /// An id that no account has, and the first line of a listing that names one.
 #[derive(Clone, Copy)]
-pub(crate) struct FirstStranger {
-    id: u32,
-    line: u64,
+pub struct FirstStranger {
+    pub id: u32,
+    pub line: u64,
 }
 
 /// How many files name ids that no account has, and the first of these.
 #[derive(Clone, Copy)]
-pub(crate) struct Strangers {
-    files: u64,
-    first: Option<FirstStranger>,
+pub struct Strangers {
+    pub files: u64,
+    pub first: Option<FirstStranger>,
 }
 
 impl Strangers {

@@ -117,7 +117,7 @@ where
     let opening = opening_of(alloc, name, reporter, before)?;
     let seen = Seen::new(alloc, before.len())?;
     let blocks = Blocks::new(alloc, after)?;
-    let first = opening.tally.ending();
+    let first = opening.counts.ending();
     let progress = Progress {
         stage: Stage::Opening,
         opening: opening.said,
@@ -128,14 +128,13 @@ where
         name: other,
         reporter,
         before,
-        reads: opening.reads.as_slice(),
+        known: opening.known.as_slice(),
     };
     let mut changes = Changes { sides, progress };
     let some = report_each(alloc, &mut changes, out, err)?;
     match changes.progress.stage() {
         Stage::Gone(_) => {
-            let tally = changes.progress.tally();
-            let second = tally.ending();
+            let second = changes.progress.ending();
             let ending = ending_of_both(first, second);
             let asks = reporter.asks();
             Ok(with_difference(asks, some, ending))

@@ -4,7 +4,7 @@ ghost use Rattle.acl_reports.specs.Listed.{IsFaultLine, IsSaid};
 ghost use Rattle.acl_reports.specs.Reporting.{IsListingFailure};
 ghost use Rattle.acl_listing_changes.specs.Changes.{part_of, unless_repeated};
 
-use super::reporter::ChangeReporter;
+use super::reporter::{ChangeReporter, Found};
 use acl_cli::Failure;
 use acl_listings::BlockFault;
 use acl_reports::push_fault_at;
@@ -43,7 +43,8 @@ pub(super) fn push_fault<'n, C: ChangeReporter>(
     push_fault_at(name, line, before, fault, faulty, out)
 }
 
-/// Appends the line about the block with this text if it has a fault, and returns the fault.
+/// Appends the line about the block with this text if it has a fault, and returns what is found in
+/// it.
 pub(super) fn say_block<'n, C: ChangeReporter>(
     alloc: Global,
     name: &'n str,
@@ -52,18 +53,22 @@ pub(super) fn say_block<'n, C: ChangeReporter>(
     text: &[u8],
     repeated: bool,
     out: &mut Vec<u8>,
-) -> Result<Option<BlockFault>, Failure<'n>>
-    ensures fault { IfOk result (λ fault. fault
+) -> Result<Found, Failure<'n>>
+    ensures fault { IfOk result (λ found. found.fault
         ≡ unless_repeated repeated ((C.wording reporter.now).fault text.now)) }
-    ensures said { IfOk result (λ fault. (said : List ℕ) × IsSaid name.entry.now
+    ensures stranger { IfOk result (λ found.
+        found.stranger ≡ (C.wording reporter.now).stranger text.now) }
+    ensures said { IfOk result (λ found. (said : List ℕ) × IsSaid name.entry.now
         (C.wording reporter.now).names (record { line = line; text = text.now })
-        (part_of fault) said
+        (part_of found.fault) said
         × (out.new.items ≡ out.old.items ++ said)) }
     ensures failed { IfErr result (IsListingFailure name.entry.now) }
 {
-    let fault = unless_repeated(repeated, reporter.fault(alloc, text)?);
+    let found = reporter.find(alloc, text)?;
+    let stranger = found.stranger;
+    let fault = unless_repeated(repeated, found.fault);
     if let Some(fault) = fault {
         push_fault(name, reporter, line, text, fault, out)?;
     }
-    Ok(fault)
+    Ok(Found { fault, stranger })
 }

@@ -2,6 +2,7 @@
 ghost use Rattle.std.specs.Prelude.{◌≡◌, IfErr, IfOk, OnOk};
 ghost use Rattle.std.specs.Bool.{MatchBool};
 ghost use Rattle.acl_listings.specs.Cursor.{HandsOut, IsOver};
+ghost use Rattle.acl_reports.specs.Listed.{ending_of};
 ghost use Rattle.acl_reports.specs.Reporting.{IsListingFailure};
 ghost use Rattle.acl_listing_changes.specs.ChangeSteps.{Appended, Here, IsLast, IsStep};
 ghost use Rattle.acl_listing_changes.specs.ChangeSteps.{ReportsReported, seen_on};
@@ -9,9 +10,9 @@ ghost use Rattle.acl_listing_changes.specs.ChangeSteps.{ReportsReported, seen_on
 use super::reporter::ChangeReporter;
 use super::seen::Seen;
 use super::sides::Sides;
-use acl_cli::Failure;
+use acl_cli::{Ending, Failure};
 use acl_listings::Blocks;
-use acl_reports::{Tally, advance};
+use acl_reports::advance;
 use std::alloc::{AllocError, Global};
 use std::io::Read;
 use std::marker::Model;
@@ -59,11 +60,11 @@ impl<A: Read + Drop> Progress<A> {
         self.stage
     }
 
-    /// How many blocks after were seen.
-    pub fn tally(&self) -> Tally
-        ensures { result ≡ self.now.seen.tally }
+    /// How the report on the blocks after that were seen ends.
+    pub fn ending(&self) -> Ending
+        ensures { result ≡ ending_of self.now.seen.tally }
     {
-        self.seen.tally()
+        self.seen.counts().ending()
     }
 
     /// Reports the lines about the listing before.
@@ -115,8 +116,8 @@ impl<A: Read + Drop> Progress<A> {
         let line = self.blocks.line();
         let text = self.blocks.text();
         let place = sides.before.place_of(text);
-        let fault = sides.report_block(alloc, &self.seen, place, line, text, out, beside)?;
-        self.seen.add(alloc, sides.name, place, text, fault)
+        let found = sides.report_block(alloc, &self.seen, place, line, text, out, beside)?;
+        self.seen.add(alloc, sides.name, place, line, text, found)
     }
 
     /// Reports on the next block after, or on the end of the listing.

@@ -1,11 +1,22 @@
 //! Reporting changes between two listings.
-ghost use Rattle.std.specs.Prelude.{◌≡◌, ◌++◌, IfOk, IsTrue, None, OnOk, is_none};
+ghost use Rattle.std.specs.Prelude.{◌≡◌, ◌++◌, IfOk, OnOk, is_none};
 ghost use Rattle.acl_listings.specs.FaultyLine.{IsFaultyAt, line_at};
-ghost use Rattle.acl_listing_changes.specs.ChangeSteps.{Appended};
+ghost use Rattle.acl_listing_changes.specs.ChangeSteps.{Appended, IsKnown};
 ghost use Rattle.acl_listing_changes.specs.Changes.{ReportsIf, ReportsOld, Wording};
 
+use super::known::Known;
 use acl_listings::BlockFault;
+use acl_reports::Stranger;
 use std::alloc::{AllocError, Global};
+
+/// What was found in a block.
+#[derive(Clone, Copy)]
+pub(crate) struct Found {
+    /// Its fault, if it has one.
+    pub fault: Option<BlockFault>,
+    /// The first id that it names and no account has, if there is one, and that is looked for.
+    pub stranger: Option<Stranger>,
+}
 
 /// Reports on the blocks of two listings.
 pub(crate) trait ChangeReporter {
@@ -16,45 +27,50 @@ pub(crate) trait ChangeReporter {
     fn asks(&self) -> bool
         ensures { result ≡ (wording self.now).asks };
 
-    /// The fault of a block with this text by itself; `None` without one. Fails only if memory runs
-    /// out.
-    fn fault(&self, alloc: Global, text: &[u8]) -> Result<Option<BlockFault>, AllocError>
-        ensures { IfOk result (λ fault. fault ≡ (wording self.now).fault text.now) };
+    /// What is found in a block with this text by itself. Fails only if memory runs out.
+    fn find(&self, alloc: Global, text: &[u8]) -> Result<Found, AllocError>
+        ensures fault { IfOk result (λ found. found.fault ≡ (wording self.now).fault text.now) }
+        ensures stranger { IfOk result (λ found.
+            found.stranger ≡ (wording self.now).stranger text.now) };
 
     /// The line of the block that is at fault, and how many lines are before it.
     fn faulty_line<'a>(&self, text: &'a [u8], fault: BlockFault) -> (usize, &'a [u8])
         ensures at { IsFaultyAt (wording self.now).names fault text.now result.0 }
         ensures line { result.1.now ≡ line_at text.now result.0 };
 
-    /// Appends the report on a block whose path is new, or returns its fault.
+    /// Appends the report on a block whose path is new, unless it has a fault, and returns what is
+    /// found in it.
     fn push_new(
         &self,
         alloc: Global,
         text: &[u8],
         out: &mut Vec<u8>,
         beside: &mut Vec<u8>,
-    ) -> Result<Option<BlockFault>, AllocError>
-        ensures fault { IfOk result (λ fault. fault ≡ (wording self.now).fault text.now) }
-        ensures reported { IfOk result (λ fault. Appended
-            (ReportsIf (is_none fault) ((wording self.now).IsNew text.now)) out.old.items
+    ) -> Result<Found, AllocError>
+        ensures fault { IfOk result (λ found. found.fault ≡ (wording self.now).fault text.now) }
+        ensures stranger { IfOk result (λ found.
+            found.stranger ≡ (wording self.now).stranger text.now) }
+        ensures reported { IfOk result (λ found. Appended
+            (ReportsIf (is_none found.fault) ((wording self.now).IsNew text.now)) out.old.items
             out.new.items beside.old.items beside.new.items) };
 
     /// Appends the report on a block whose path the block `old` had before, unless one of them has
-    /// a fault, and returns the fault of the new one. `reads` is whether `old` is known to have
-    /// none.
+    /// a fault, and returns what is found in the new one. `known` is what is known of `old`.
     fn push_changed(
         &self,
         alloc: Global,
         old: &[u8],
-        reads: bool,
+        known: Known,
         text: &[u8],
         out: &mut Vec<u8>,
         beside: &mut Vec<u8>,
-    ) -> Result<Option<BlockFault>, AllocError>
-        requires { IsTrue reads → (wording self.now).fault old.now ≡ None }
-        ensures fault { IfOk result (λ fault. fault ≡ (wording self.now).fault text.now) }
-        ensures reported { IfOk result (λ fault. Appended
-            (ReportsIf (is_none fault) (ReportsOld
+    ) -> Result<Found, AllocError>
+        requires { IsKnown (wording self.now) old.now known }
+        ensures fault { IfOk result (λ found. found.fault ≡ (wording self.now).fault text.now) }
+        ensures stranger { IfOk result (λ found.
+            found.stranger ≡ (wording self.now).stranger text.now) }
+        ensures reported { IfOk result (λ found. Appended
+            (ReportsIf (is_none found.fault) (ReportsOld
             (wording self.now) old.now text.now)) out.old.items
             out.new.items beside.old.items beside.new.items) };
 

@@ -6,9 +6,10 @@ ghost use Rattle.acl_reports.specs.Reporting.{IsListingFailure};
 ghost use Rattle.acl_listing_changes.specs.ChangeSteps.{is_marked, nothing_seen, with_seen};
 
 use super::marks::{is_marked, mark};
+use super::reporter::Found;
 use acl_cli::Failure;
-use acl_listings::{BlockFault, path_of};
-use acl_reports::Tally;
+use acl_listings::path_of;
+use acl_reports::Counts;
 use std::alloc::{AllocError, Global};
 use std::marker::Model;
 
@@ -18,7 +19,7 @@ pub(super) struct Seen {
     /// Whether the path of the block before at each place was seen, if that is the first block with
     /// it.
     met: Vec<bool>,
-    tally: Tally,
+    counts: Counts,
     /// The first path of it.
     first: Option<Vec<u8>>,
     /// Whether the listing before has any path of it.
@@ -33,7 +34,8 @@ impl Model for Seen {
 
     ghost view = { λ inside. record {
       met = inside.met.items;
-      tally = inside.tally;
+      tally = inside.counts.tally;
+      strangers = inside.counts.strangers;
       first = option_map (λ path. path.items) inside.first;
       known = inside.known;
     } };
@@ -56,7 +58,7 @@ impl Seen {
     {
         Ok(Seen {
             met: Vec::from_elem(alloc, false, count)?,
-            tally: Tally::new(),
+            counts: Counts::new(),
             first: None,
             known: false,
         })
@@ -70,10 +72,11 @@ impl Seen {
     }
 
     /// How many blocks were seen.
-    pub fn tally(&self) -> Tally
-        ensures { result ≡ self.now.tally }
+    pub fn counts(&self) -> Counts
+        ensures tally { result.tally ≡ self.now.tally }
+        ensures strangers { result.strangers ≡ self.now.strangers }
     {
-        self.tally
+        self.counts
     }
 
     /// The first path that was seen.
@@ -104,25 +107,28 @@ impl Seen {
         Ok(())
     }
 
-    /// Adds a block with this text and this fault, if it has one. `place` is that of the block
-    /// before with its path, and `name` the listing's.
+    /// Adds a block with this text, whose first line has this number, and in which this was found.
+    /// `place` is that of the block before with its path, and `name` the listing's.
     pub fn add<'n>(
         &mut self,
         alloc: Global,
         name: &'n str,
         place: Option<usize>,
+        line: u64,
         text: &[u8],
-        fault: Option<BlockFault>,
+        found: Found,
     ) -> Result<(), Failure<'n>>
-        ensures seen { OnOk result (self.new ≡ with_seen self.old place text.now fault) }
+        ensures seen { OnOk result (self.new ≡ with_seen self.old place
+            (record { line = line; text = text.now }) found.fault found.stranger) }
         ensures failed { IfErr result (IsListingFailure name.entry.now) }
     {
         self.keep_first(alloc, text)?;
-        let Some(tally) = self.tally.with(text, fault) else {
-            // No listing has so many blocks.
+        let counted = self.counts.with(line, text, found.fault, found.stranger);
+        let Some(counts) = counted else {
+            // No listing has so many blocks or lines.
             return Err(Failure::Unread(name));
         };
-        self.tally = tally;
+        self.counts = counts;
         mark(self.met.as_mut_slice(), place);
         self.known = self.known || place.is_some();
         Ok(())

@@ -1,23 +1,21 @@
 //! Two listings, the one before in memory.
 ghost use Rattle.std.specs.Prelude.{◌≡◌, ◌++◌, IfErr, IfOk, OnOk, is_none};
-ghost use Rattle.acl_reports.specs.Listed.{closing};
+ghost use Rattle.acl_reports.specs.Listed.{last_lines};
 ghost use Rattle.acl_reports.specs.Paths.{block_for, first_path};
 ghost use Rattle.acl_reports.specs.Reporting.{IsListingFailure};
-ghost use Rattle.acl_listing_changes.specs.ChangeSteps.{Appended, AreRead, ReportsMissing};
-ghost use Rattle.acl_listing_changes.specs.ChangeSteps.{ReportsReported};
-ghost use Rattle.acl_listing_changes.specs.ChangeSteps.{Here, fault_here};
-ghost use Rattle.acl_listing_changes.specs.ChangeSteps.{};
+ghost use Rattle.acl_listing_changes.specs.ChangeSteps.{Appended, AreKnown, Here};
+ghost use Rattle.acl_listing_changes.specs.ChangeSteps.{ReportsMissing, ReportsReported};
+ghost use Rattle.acl_listing_changes.specs.ChangeSteps.{fault_here};
 ghost use Rattle.acl_listing_changes.specs.Changes.{ReportsIf, ReportsNextBy, ReportsSince};
 ghost use Rattle.acl_listing_changes.specs.Changes.{apart_by};
 ghost use Rattle.acl_listing_changes.specs.Kept.{place_of};
 
 use super::faults::{push_fault, say_block};
 use super::kept::KeptListing;
-use super::marks::is_marked;
-use super::reporter::ChangeReporter;
+use super::known::{Known, known_at};
+use super::reporter::{ChangeReporter, Found};
 use super::seen::Seen;
 use acl_cli::Failure;
-use acl_listings::BlockFault;
 use std::alloc::{AllocError, Global};
 
 /// Two listings, and the reporter of what changed between them.
@@ -27,9 +25,9 @@ pub(super) struct Sides<'n, 't, C: ChangeReporter> {
     pub name: &'n str,
     pub reporter: &'t C,
     pub before: &'t KeptListing<'t>,
-    /// Whether the block before at each place is known to have no fault.
-    pub reads: &'t [bool],
-    ghost known: { AreRead (C.wording reporter.now) before.now reads.now },
+    /// What is known of the block before at each place.
+    pub known: &'t [Known],
+    ghost are_known: { AreKnown (C.wording reporter.now) before.now known.now },
 }
 
 impl<'n, 't, C: ChangeReporter> Sides<'n, 't, C> {
@@ -42,21 +40,23 @@ impl<'n, 't, C: ChangeReporter> Sides<'n, 't, C> {
         text: &[u8],
         out: &mut Vec<u8>,
         beside: &mut Vec<u8>,
-    ) -> Result<Option<BlockFault>, AllocError>
-        ensures fault { IfOk result (λ fault.
-            fault ≡ (C.wording self.now.reporter.now).fault text.now) }
-        ensures reported { place ≡ place_of self.now.before.now text.now → IfOk result (λ fault.
-            Appended (ReportsIf (is_none fault) (ReportsSince (C.wording self.now.reporter.now)
-            (block_for self.now.before.now text.now) text.now)) out.old.items out.new.items
-            beside.old.items beside.new.items) }
+    ) -> Result<Found, AllocError>
+        ensures fault { IfOk result (λ found.
+            found.fault ≡ (C.wording self.now.reporter.now).fault text.now) }
+        ensures stranger { IfOk result (λ found.
+            found.stranger ≡ (C.wording self.now.reporter.now).stranger text.now) }
+        ensures reported { place ≡ place_of self.now.before.now text.now → IfOk result (λ found.
+            Appended (ReportsIf (is_none found.fault) (ReportsSince
+            (C.wording self.now.reporter.now) (block_for self.now.before.now text.now) text.now))
+            out.old.items out.new.items beside.old.items beside.new.items) }
     {
         match self.before.block_at(place) {
             None => self.reporter.push_new(alloc, text, out, beside),
             Some(old) => {
                 let old = old.text.as_slice();
-                let reads = is_marked(self.reads, place);
+                let known = known_at(self.known, place);
                 self.reporter
-                    .push_changed(alloc, old, reads, text, out, beside)
+                    .push_changed(alloc, old, known, text, out, beside)
             }
         }
     }
@@ -71,20 +71,30 @@ impl<'n, 't, C: ChangeReporter> Sides<'n, 't, C> {
         text: &[u8],
         out: &mut Vec<u8>,
         beside: &mut Vec<u8>,
-    ) -> Result<Option<BlockFault>, Failure<'n>>
-        ensures fault { IfOk result (λ fault.
-            fault ≡ (C.wording self.now.reporter.now).fault text.now) }
-        ensures reported { place ≡ place_of self.now.before.now text.now → IfOk result (λ fault.
+    ) -> Result<Found, Failure<'n>>
+        ensures fault { IfOk result (λ found.
+            found.fault ≡ (C.wording self.now.reporter.now).fault text.now) }
+        ensures stranger { IfOk result (λ found.
+            found.stranger ≡ (C.wording self.now.reporter.now).stranger text.now) }
+        ensures reported { place ≡ place_of self.now.before.now text.now → IfOk result (λ found.
             Appended (ReportsNextBy (C.wording self.now.reporter.now) self.now.name.now
             (block_for self.now.before.now text.now) (record { line = line; text = text.now })
-            fault) out.old.items out.new.items beside.old.items beside.new.items) }
+            found.fault) out.old.items out.new.items beside.old.items beside.new.items) }
         ensures failed { IfErr result (IsListingFailure self.now.name.now) }
     {
-        let Some(fault) = self.push_since(alloc, place, text, out, beside)? else {
-            return Ok(None);
+        let found = self.push_since(alloc, place, text, out, beside)?;
+        let stranger = found.stranger;
+        let Some(fault) = found.fault else {
+            return Ok(Found {
+                fault: None,
+                stranger,
+            });
         };
         push_fault(self.name, self.reporter, line, text, fault, beside)?;
-        Ok(Some(fault))
+        Ok(Found {
+            fault: Some(fault),
+            stranger,
+        })
     }
 
     /// Appends the report on a block after with this text, or the line about its fault. `place` is
@@ -98,10 +108,12 @@ impl<'n, 't, C: ChangeReporter> Sides<'n, 't, C> {
         text: &[u8],
         out: &mut Vec<u8>,
         beside: &mut Vec<u8>,
-    ) -> Result<Option<BlockFault>, Failure<'n>>
-        ensures fault { place ≡ place_of self.now.before.now text.now → IfOk result (λ fault.
-            fault ≡ fault_here (C.wording self.now.reporter.now) self.now.before.now seen.now.met
-            text.now) }
+    ) -> Result<Found, Failure<'n>>
+        ensures fault { place ≡ place_of self.now.before.now text.now → IfOk result (λ found.
+            found.fault ≡ fault_here (C.wording self.now.reporter.now) self.now.before.now
+            seen.now.met text.now) }
+        ensures stranger { IfOk result (λ found.
+            found.stranger ≡ (C.wording self.now.reporter.now).stranger text.now) }
         ensures reported { place ≡ place_of self.now.before.now text.now → IfOk result (λ _.
             Appended (ReportsReported (C.wording self.now.reporter.now) self.now.name.now
             self.now.before.now (Here seen.now (record { line = line; text = text.now })))
@@ -134,10 +146,10 @@ impl<'n, 't, C: ChangeReporter> Sides<'n, 't, C> {
         ensures { OnOk result (beside.new.items ≡ beside.old.items
             ++ (apart_by (C.wording self.now.reporter.now) seen.now.known
             (first_path self.now.before.now) seen.now.first
-            ++ closing self.now.name.now seen.now.tally)) }
+            ++ last_lines self.now.name.now seen.now.tally seen.now.strangers)) }
     {
         self.say_apart(seen, beside)?;
-        seen.tally().push_closing(self.name, beside)
+        seen.counts().push_last(self.name, beside)
     }
 
     /// Appends the report on the block before at this place, if its path is gone.

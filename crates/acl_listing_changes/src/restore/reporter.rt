@@ -3,7 +3,7 @@ ghost use Rattle.std.specs.Prelude.{◌≡◌, ◌++◌, OnOk};
 ghost use Rattle.acl_listing_changes.specs.Restoring.{path_line, restore_fault, restored_text};
 
 use super::no_names::NoNames;
-use crate::between::ChangeReporter;
+use crate::between::{ChangeReporter, Found, Known};
 use acl_listings::{BlockFault, MAX_BLOCK, faulty_line, path_of};
 use std::alloc::{AllocError, Global};
 
@@ -56,8 +56,12 @@ impl ChangeReporter for RestoreReporter {
         false
     }
 
-    fn fault(&self, _alloc: Global, text: &[u8]) -> Result<Option<BlockFault>, AllocError> {
-        Ok(fault_of(text))
+    // Ids without an account aren't looked for.
+    fn find(&self, _alloc: Global, text: &[u8]) -> Result<Found, AllocError> {
+        Ok(Found {
+            fault: fault_of(text),
+            stranger: None,
+        })
     }
 
     fn faulty_line<'a>(&self, text: &'a [u8], fault: BlockFault) -> (usize, &'a [u8]) {
@@ -70,33 +74,41 @@ impl ChangeReporter for RestoreReporter {
         text: &[u8],
         _out: &mut Vec<u8>,
         beside: &mut Vec<u8>,
-    ) -> Result<Option<BlockFault>, AllocError> {
+    ) -> Result<Found, AllocError> {
         let fault = fault_of(text);
+        let found = Found {
+            fault,
+            stranger: None,
+        };
         if fault.is_some() {
-            return Ok(fault);
+            return Ok(found);
         }
         push_path_line(text, "new", beside)?;
-        Ok(fault)
+        Ok(found)
     }
 
     fn push_changed(
         &self,
         _alloc: Global,
         old: &[u8],
-        _reads: bool,
+        _known: Known,
         text: &[u8],
         out: &mut Vec<u8>,
         _beside: &mut Vec<u8>,
-    ) -> Result<Option<BlockFault>, AllocError> {
+    ) -> Result<Found, AllocError> {
         let fault = fault_of(text);
+        let found = Found {
+            fault,
+            stranger: None,
+        };
         if fault.is_some() {
-            return Ok(fault);
+            return Ok(found);
         }
         if fault_of(old).is_some() {
-            return Ok(fault);
+            return Ok(found);
         }
         push_restored(old, text, out)?;
-        Ok(fault)
+        Ok(found)
     }
 
     fn push_gone(

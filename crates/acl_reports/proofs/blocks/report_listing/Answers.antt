@@ -16,8 +16,8 @@ report_each-requires g c κs =
       names = names_of_host c.args.host.now;
       part = g.T.BlockReporter.part c.args.reporter;
       stranger = g.T.BlockReporter.stranger c.args.reporter;
-      tally = c.new-2.result;
-      strangers = c.new-3.result;
+      tally = c.new-2.result.tally;
+      strangers = c.new-2.result.strangers;
       closed = false;
       coming = c.in_ok-blocks.blocks.coming;
     } in
@@ -34,7 +34,7 @@ returns-in_err-report_each-clause-cut g c =
     let (text, said, begun, front, reports) = c.in_err-report_each.ensures.cut in
     let went : FrontWentOut (BeginsNaming name names part stranger bytes) (g.W.Write.contents c.args.out.now) (g.W.Write.contents c.report_each.new.out) c.args.err.now c.report_each.new.err =
     front_out (BeginsNaming name names part stranger bytes) _ _ _ _ text said
-    (begins_listing name names part stranger c.new-2.result c.new-3.result c.in_ok-blocks.blocks.coming bytes c.new-2.ensures c.new-3.ensures c.in_ok-blocks.ensures.blocks text said (begun.1 [] c.requires)) front reports in
+    (begins_listing name names part stranger c.new-2.result.tally c.new-2.result.strangers c.in_ok-blocks.blocks.coming bytes c.new-2.ensures.tally c.new-2.ensures.strangers c.in_ok-blocks.ensures.blocks text said (begun.1 [] c.requires)) front reports in
     search (rules, went)
 
 pub returns-then-listing-clause-answered : goal.returns-then-listing-clause-answered
@@ -51,15 +51,15 @@ returns-then-listing-clause-answered g c =
       names = names_of_host last.host.now;
       part = g.T.BlockReporter.part last.reporter;
       stranger = g.T.BlockReporter.stranger last.reporter;
-      tally = last.tally;
-      strangers = last.strangers;
+      tally = last.counts.tally;
+      strangers = last.counts.strangers;
       closed = last.closed;
       coming = last.blocks.coming;
     } in
     let ends = c.in_ok-report_each.ensures.ends c.ending.result (λ earlier stands. ended left earlier c.ending.result c.if-listing.true c.ending.ensures) [] c.requires in
     record {
       answer = record { text = text; beside = said; ending = c.ending.result };
-      is = answers_listing name names part stranger c.new-2.result c.new-3.result c.in_ok-blocks.blocks.coming bytes c.new-2.ensures c.new-3.ensures c.in_ok-blocks.ensures.blocks text said c.ending.result (reported [] c.requires) ends;
+      is = answers_listing name names part stranger c.new-2.result.tally c.new-2.result.strangers c.in_ok-blocks.blocks.coming bytes c.new-2.ensures.tally c.new-2.ensures.strangers c.in_ok-blocks.ensures.blocks text said c.ending.result (reported [] c.requires) ends;
       ends = refl;
       text = went;
       beside = reports;
@@ -75,6 +75,6 @@ returns-clause-cut g c =
     let (text, said, reported, went, reports, some_is) = c.in_ok-report_each.ensures.written in
     let out : FrontWentOut (BeginsNaming name names part stranger bytes) (g.W.Write.contents c.args.out.now) (g.W.Write.contents c.report_each.new.out) c.args.err.now c.report_each.new.err =
     front_out (BeginsNaming name names part stranger bytes) _ _ _ _ text said
-    (begins_reported name names part stranger c.new-2.result c.new-3.result c.in_ok-blocks.blocks.coming bytes c.new-2.ensures c.new-3.ensures c.in_ok-blocks.ensures.blocks text said (reported [] c.requires))
+    (begins_reported name names part stranger c.new-2.result.tally c.new-2.result.strangers c.in_ok-blocks.blocks.coming bytes c.new-2.ensures.tally c.new-2.ensures.strangers c.in_ok-blocks.ensures.blocks text said (reported [] c.requires))
     (length text, subst (Appends (g.W.Write.contents c.args.out.now) (g.W.Write.contents c.report_each.new.out)) (sym (take-length text)) went) reports in
     search (rules, out)

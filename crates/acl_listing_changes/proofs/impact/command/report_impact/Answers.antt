@@ -6,6 +6,7 @@ use Rattle.acl_cli.specs.declared.command.Ending.{Ending}
 use Rattle.acl_cli.specs.declared.failure.Failure.{Failure}
 use Rattle.acl_people.specs.Host.{names_of_host}
 use Rattle.acl_reports.specs.ListingMeaning.{bytes_named, inputs_of, is_input}
+use Rattle.acl_reports.specs.Strangers.{stranger_in}
 use Rattle.acl_people.specs.Asked.{persons_in}
 use Rattle.acl_people.proofs.AskedLemmas.{persons_again}
 use Rattle.acl_listing_changes.specs.ChangeMeaning.{FailsForListings, after_in, before_in, change_meaning, is_input_twice}
@@ -70,6 +71,7 @@ returns g c =
     } in
     let reported : ImpactAsking = record {
       names = names_of_host host;
+      stranger = stranger_in host;
       concern = concern;
       written = c.flag_field.result;
       asks = c.flag_field-2.result;

@@ -27,8 +27,8 @@ returns-then-branch-clause-reported g c =
     let first = c.in_ok-advance.ensures.rest in
     let second = c.in_ok-report_here.ensures.rest in
     let reporter : mid.reporter ≡ was.reporter = ap (λ l. l.reporter) first in
-    let left : Left = record { name = was.name.now; names = names_of_host was.host.now; part = part was.reporter; stranger = stranger was.reporter; tally = was.tally; strangers = was.strangers; closed = was.closed; coming = was.blocks.coming } in
-    let next : Left = record { name = now.name.now; names = names_of_host now.host.now; part = part now.reporter; stranger = stranger now.reporter; tally = now.tally; strangers = now.strangers; closed = now.closed; coming = now.blocks.coming } in
+    let left : Left = record { name = was.name.now; names = names_of_host was.host.now; part = part was.reporter; stranger = stranger was.reporter; tally = was.counts.tally; strangers = was.counts.strangers; closed = was.closed; coming = was.blocks.coming } in
+    let next : Left = record { name = now.name.now; names = names_of_host now.host.now; part = part now.reporter; stranger = stranger now.reporter; tally = now.counts.tally; strangers = now.counts.strangers; closed = now.closed; coming = now.blocks.coming } in
     let block = mid.blocks.block in
     let hands : HandsOut was.blocks.coming block mid.blocks.coming = if_true _ _ _ some c.in_ok-advance.ensures.block in
     let is : IsNext (Stands was.reporter) (Stands now.reporter) left next block c.args.out.now.items c.report_here.new.out.items c.args.beside.now.items c.report_here.new.beside.items =
@@ -41,7 +41,7 @@ returns-then-branch-clause-reported g c =
       stranger = c.in_ok-report_here.ensures.same_strangers ∙ ap stranger reporter;
       hands = subst (HandsOut was.blocks.coming block) (sym (ap (λ l. l.blocks.coming) second)) hands;
       stands = λ earlier stands. c.in_ok-report_here.ensures.stands earlier (subst (λ t. Stands t earlier) (sym reporter) stands);
-      done = λ earlier stands. subst (λ m. IsItemDone m.name.now (names_of_host m.host.now) (record { block = block; part = part m.reporter earlier block.text }) (stranger m.reporter block.text) m.tally now.tally m.strangers now.strangers
+      done = λ earlier stands. subst (λ m. IsItemDone m.name.now (names_of_host m.host.now) (record { block = block; part = part m.reporter earlier block.text }) (stranger m.reporter block.text) m.counts.tally now.counts.tally m.counts.strangers now.counts.strangers
           c.args.out.now.items c.report_here.new.out.items c.args.beside.now.items c.report_here.new.beside.items) first
           (c.in_ok-report_here.ensures.reported earlier (subst (λ t. Stands t earlier) (sym reporter) stands));
     } in
@@ -66,24 +66,24 @@ returns-clause-reported g c =
     let none : c.in_ok-advance.field-0 ≡ false = search rules in
     let first = c.in_ok-advance.ensures.rest in
     let over : IsOver was.blocks.coming = if_false _ _ _ none c.in_ok-advance.ensures.block in
-    let left : Left = record { name = was.name.now; names = names_of_host was.host.now; part = part was.reporter; stranger = stranger was.reporter; tally = was.tally; strangers = was.strangers; closed = was.closed; coming = was.blocks.coming } in
+    let left : Left = record { name = was.name.now; names = names_of_host was.host.now; part = part was.reporter; stranger = stranger was.reporter; tally = was.counts.tally; strangers = was.counts.strangers; closed = was.closed; coming = was.blocks.coming } in
     let (witness, there) = c.requires.0 in
-    let said : c.push_last.new.beside.items ≡ c.args.beside.now.items ++ last_lines was.name.now was.tally was.strangers =
-    c.in_ok-push_last.ensures ∙ ap (λ m. c.args.beside.now.items ++ last_lines m.name.now m.tally m.strangers) first in (
+    let said : c.push_last.new.out.items ≡ c.args.beside.now.items ++ last_lines was.name.now was.counts.tally was.counts.strangers =
+    c.in_ok-push_last.ensures ∙ ap (λ m. c.args.beside.now.items ++ last_lines m.name.now m.counts.tally m.counts.strangers) first in (
       [],
-      last_lines was.name.now was.tally was.strangers,
+      last_lines was.name.now was.counts.tally was.counts.strangers,
       sym (append-nil c.args.out.now.items),
       said,
       subst (λ m. LeadsOn (ReportsOf (Stands was.reporter) left)
-          (ReportsOf (Stands m.reporter) (record { name = m.name.now; names = names_of_host m.host.now; part = part m.reporter; stranger = stranger m.reporter; tally = m.tally; strangers = m.strangers; closed = true; coming = m.blocks.coming }))
-          [] (last_lines was.name.now was.tally was.strangers)) (sym first)
+          (ReportsOf (Stands m.reporter) (record { name = m.name.now; names = names_of_host m.host.now; part = part m.reporter; stranger = stranger m.reporter; tally = m.counts.tally; strangers = m.counts.strangers; closed = true; coming = m.blocks.coming }))
+          [] (last_lines was.name.now was.counts.tally was.counts.strangers)) (sym first)
           (reported_closing (Stands was.reporter) left mid.blocks.coming c.if-self.false over),
       subst (λ m. LeadsOn (BeginsOf (Stands was.reporter) left)
-          (BeginsOf (Stands m.reporter) (record { name = m.name.now; names = names_of_host m.host.now; part = part m.reporter; stranger = stranger m.reporter; tally = m.tally; strangers = m.strangers; closed = true; coming = m.blocks.coming }))
-          [] (last_lines was.name.now was.tally was.strangers)) (sym first)
+          (BeginsOf (Stands m.reporter) (record { name = m.name.now; names = names_of_host m.host.now; part = part m.reporter; stranger = stranger m.reporter; tally = m.counts.tally; strangers = m.counts.strangers; closed = true; coming = m.blocks.coming }))
+          [] (last_lines was.name.now was.counts.tally was.counts.strangers)) (sym first)
           (begun_closing (Stands was.reporter) left mid.blocks.coming c.if-self.false over witness there),
       subst (λ m. BeginsOf (Stands m.reporter)
-          (record { name = m.name.now; names = names_of_host m.host.now; part = part m.reporter; stranger = stranger m.reporter; tally = m.tally; strangers = m.strangers; closed = true; coming = m.blocks.coming }) [] []) (sym first)
+          (record { name = m.name.now; names = names_of_host m.host.now; part = part m.reporter; stranger = stranger m.reporter; tally = m.counts.tally; strangers = m.counts.strangers; closed = true; coming = m.blocks.coming }) [] []) (sym first)
           (begun_closed (Stands was.reporter) left mid.blocks.coming c.if-self.false over witness there),
     )
 
@@ -97,7 +97,7 @@ returns-clause-ends g c =
     let none : c.in_ok-advance.field-0 ≡ false = search rules in
     let first = c.in_ok-advance.ensures.rest in
     let over : IsOver was.blocks.coming = if_false _ _ _ none c.in_ok-advance.ensures.block in
-    let left : Left = record { name = was.name.now; names = names_of_host was.host.now; part = part was.reporter; stranger = stranger was.reporter; tally = was.tally; strangers = was.strangers; closed = was.closed; coming = was.blocks.coming } in
+    let left : Left = record { name = was.name.now; names = names_of_host was.host.now; part = part was.reporter; stranger = stranger was.reporter; tally = was.counts.tally; strangers = was.counts.strangers; closed = was.closed; coming = was.blocks.coming } in
     λ ending ends. ends_closing (Stands was.reporter) left mid.blocks.coming c.if-self.false over ending
     (subst (λ m. EndsOf (Stands m.reporter)
-    (record { name = m.name.now; names = names_of_host m.host.now; part = part m.reporter; stranger = stranger m.reporter; tally = m.tally; strangers = m.strangers; closed = true; coming = m.blocks.coming }) ending) first ends)
+    (record { name = m.name.now; names = names_of_host m.host.now; part = part m.reporter; stranger = stranger m.reporter; tally = m.counts.tally; strangers = m.counts.strangers; closed = true; coming = m.blocks.coming }) ending) first ends)
