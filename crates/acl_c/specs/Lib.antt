@@ -5,3 +5,4 @@ pub mod Names
 pub mod Compared
 pub mod Created
 pub mod Entries
+pub mod Deletion

@@ -1,12 +1,11 @@
 //! Who may delete a file, rename it, or put another in its place.
 
-ghost use Rattle.std.specs.Prelude.{◌≡◌, ◌↔◌, IsTrue, List, Ok, true};
-ghost use Rattle.acl_bridge.specs.declared.any_acl.AnyAcl.TheVariants.{Posix};
-ghost use Rattle.acl_c.specs.Answers.{number_of_answer, zero_number};
+ghost use Rattle.std.specs.Prelude.{List};
+ghost use Rattle.acl_c.specs.Deletion.{ReportsDeletion, posix_deletion};
 ghost use Rattle.acl_c.specs.Status.{nfs4_number, posix_number};
 ghost use Rattle.acl_names.specs.Requester.{Identity};
 ghost use Rattle.acl_posix.specs.Entry.{EntryValue};
-ghost use Rattle.acl_wire.specs.Deletion.{file_of, raws_deletion, xattr_deletion};
+ghost use Rattle.acl_wire.specs.Deletion.{raws_deletion};
 
 use crate::nfs4::File;
 use crate::status::{nfs4_number as nfs4_fault_number, posix_number as posix_fault_number};
@@ -24,13 +23,9 @@ pub extern "C" fn meardwyn_nfs4_may_delete(
     gids: &[u32],
     error: &mut i32,
 ) -> bool
-    ensures granted { let who : Identity = record { uid = uid; gids = gids.now } in
-        IsTrue result ↔ (raws_deletion sticky folder_aces.now folder.now.owner folder.now.group
-        aces.now file.now.owner file.now.group who ≡ Ok true) }
-    ensures error { let who : Identity = record { uid = uid; gids = gids.now } in
-        error.new ≡ number_of_answer nfs4_number zero_number
-        (raws_deletion sticky folder_aces.now folder.now.owner folder.now.group aces.now
-        file.now.owner file.now.group who) }
+    ensures { let who : Identity = record { uid = uid; gids = gids.now } in
+        ReportsDeletion nfs4_number (raws_deletion sticky folder_aces.now folder.now.owner
+        folder.now.group aces.now file.now.owner file.now.group who) result error.new }
 {
     match raws_delete(
         sticky,
@@ -65,14 +60,9 @@ fn posix_may_delete(
     gids: &[u32],
     error: &mut i32,
 ) -> bool
-    ensures granted { let who : Identity = record { uid = uid; gids = gids.now } in
-        (acl : List EntryValue) → IsTrue result ↔ (xattr_deletion rules sticky folder_xattr.now
-        folder.now.owner folder.now.group
-        (file_of (Posix acl) file.now.owner file.now.group) who ≡ Ok true) }
-    ensures error { let who : Identity = record { uid = uid; gids = gids.now } in
-        (acl : List EntryValue) → error.new ≡ number_of_answer posix_number zero_number
-        (xattr_deletion rules sticky folder_xattr.now folder.now.owner folder.now.group
-        (file_of (Posix acl) file.now.owner file.now.group) who) }
+    ensures { let who : Identity = record { uid = uid; gids = gids.now } in
+        (acl : List EntryValue) → ReportsDeletion posix_number (posix_deletion rules sticky
+        folder_xattr.now folder.now acl file.now who) result error.new }
 {
     match xattr_delete(
         rules,
@@ -106,14 +96,9 @@ pub extern "C" fn meardwyn_posix_may_delete(
     gids: &[u32],
     error: &mut i32,
 ) -> bool
-    ensures granted { let who : Identity = record { uid = uid; gids = gids.now } in
-        (acl : List EntryValue) → IsTrue result ↔ (xattr_deletion Rules.Draft sticky
-        folder_xattr.now folder.now.owner folder.now.group
-        (file_of (Posix acl) file.now.owner file.now.group) who ≡ Ok true) }
-    ensures error { let who : Identity = record { uid = uid; gids = gids.now } in
-        (acl : List EntryValue) → error.new ≡ number_of_answer posix_number zero_number
-        (xattr_deletion Rules.Draft sticky folder_xattr.now folder.now.owner folder.now.group
-        (file_of (Posix acl) file.now.owner file.now.group) who) }
+    ensures { let who : Identity = record { uid = uid; gids = gids.now } in
+        (acl : List EntryValue) → ReportsDeletion posix_number (posix_deletion Rules.Draft sticky
+        folder_xattr.now folder.now acl file.now who) result error.new }
 {
     posix_may_delete(
         Rules::Draft,
@@ -138,14 +123,9 @@ pub extern "C" fn meardwyn_posix_may_delete_linux(
     gids: &[u32],
     error: &mut i32,
 ) -> bool
-    ensures granted { let who : Identity = record { uid = uid; gids = gids.now } in
-        (acl : List EntryValue) → IsTrue result ↔ (xattr_deletion Rules.Linux sticky
-        folder_xattr.now folder.now.owner folder.now.group
-        (file_of (Posix acl) file.now.owner file.now.group) who ≡ Ok true) }
-    ensures error { let who : Identity = record { uid = uid; gids = gids.now } in
-        (acl : List EntryValue) → error.new ≡ number_of_answer posix_number zero_number
-        (xattr_deletion Rules.Linux sticky folder_xattr.now folder.now.owner folder.now.group
-        (file_of (Posix acl) file.now.owner file.now.group) who) }
+    ensures { let who : Identity = record { uid = uid; gids = gids.now } in
+        (acl : List EntryValue) → ReportsDeletion posix_number (posix_deletion Rules.Linux sticky
+        folder_xattr.now folder.now acl file.now who) result error.new }
 {
     posix_may_delete(
         Rules::Linux,
