@@ -1,13 +1,12 @@
 -- The paths of a listing, kept with the places of their letters.
-use Rattle.std.proofs.Common.{◌≡◌, ◌∙◌, ◌<◌, ◌++◌, ◌||◌, ℕ, zero, suc, Bool, true, false, cond, List, [], ◌∷◌, Option, Some, None, ap, append-nil, arith, is_some, length, length-append, map, nat_eq, option_map, refl, subst, sym}
+use Rattle.std.proofs.Common.{◌≡◌, ◌∙◌, ◌<◌, ◌++◌, ◌||◌, ℕ, zero, suc, Bool, true, false, cond, List, [], ◌∷◌, Option, Some, None, inl, inr, ap, append-nil, arith, is_some, length, length-append, map, nat_eq, option_map, refl, subst, sym}
 use Rattle.std.specs.Prelude.{Vec, slice_get}
 use Rattle.std.specs.Cmp.Lexicographic.{pointwise}
 use Rattle.std.specs.List.{find, list_any}
 use Rattle.std.specs.Map.{lookup}
 use Rattle.std.specs.declared.alloc.Global.{Global}
 use Rattle.std.proofs.lemmas.List.{map-append}
-use Rattle.indexmap.specs.IndexSet.{insert_key}
-use Rattle.acl_listing_reach.specs.KnownSteps.{AreWithin, IsGrown, IsWithin, Kept, Texts, at_in, letters_in}
+use Rattle.acl_listing_reach.specs.KnownSteps.{AreWithin, IsGrown, IsGrownBy, IsGrownByAny, IsWithin, Kept, Texts, at_in, letters_in}
 use Rattle.acl_listing_reach.specs.Once.{At, has_path, is_at, letters_for}
 
 -- ---- a path among them
@@ -76,15 +75,15 @@ grown_paths old new (more, is) entries within = ap (λ known. map (at_in known) 
 pub grown_within : (old new : Texts) → IsGrown old new → (entries : List Kept) → AreWithin (length old) entries → AreWithin (length new) entries
 grown_within old new (more, is) entries within = subst (λ known. AreWithin (length known) entries) (sym is) (all_further old more entries within)
 
-pub grown_not : (known : Texts) → IsGrown known known
-grown_not known = ([], sym (append-nil known))
+-- these letters stand there once more, or did already
+pub grown_if : (there : Bool) (known : Texts) (one : Vec ℕ Global) (letters : List ℕ) → one.items ≡ letters → IsGrownBy letters known (cond there known (known ++ one ∷ []))
+grown_if true known one letters is = inl refl
+grown_if false known one letters is = inr (one, is, refl)
 
-pub grown_key : (eq : Vec ℕ Global → Vec ℕ Global → Bool) (known : Texts) (letters : Vec ℕ Global) → IsGrown known (insert_key eq known letters)
-grown_key eq known letters = by (list_any (eq letters) known)
-  where
-    by : (b : Bool) → IsGrown known (cond b known (known ++ letters ∷ []))
-    by true = grown_not known
-    by false = (letters ∷ [], refl)
+pub grown_by : (letters : Option (List ℕ)) (old new : Texts) → IsGrownByAny letters old new → IsGrown old new
+grown_by None old new same = ([], same ∙ sym (append-nil old))
+grown_by (Some letters) old new (inl same) = ([], same ∙ sym (append-nil old))
+grown_by (Some letters) old new (inr (one, text, more)) = (one ∷ [], more)
 
 -- one path more
 pub within_more : (count : ℕ) (entries : List Kept) → AreWithin count entries → (entry : Kept) → IsWithin count entry.1 → AreWithin count (entries ++ entry ∷ [])

@@ -1,6 +1,6 @@
 -- How the paths of a listing are kept with their letters. Private steps, which no public clause
 -- cites.
-use Rattle.std.specs.Prelude.{◌≡◌, ◌<◌, ⊤, ℕ, List, [], ◌∷◌, ◌++◌, Option, Some, None, Vec}
+use Rattle.std.specs.Prelude.{◌≡◌, ◌⊎◌, ◌<◌, ⊤, ℕ, List, [], ◌∷◌, ◌++◌, Option, Some, None, Vec}
 use Rattle.std.specs.Prelude.{option_map, slice_get}
 use Rattle.std.specs.declared.alloc.Global.{Global}
 use Rattle.acl_listing_reach.specs.Once.{At}
@@ -33,3 +33,12 @@ AreWithin count (entry ∷ entries) = IsWithin count entry.1 × AreWithin count 
 -- more were added behind them
 abbrev pub IsGrown : Texts → Texts → Type 0
 IsGrown old new = (more : Texts) × (new ≡ old ++ more)
+
+-- no text but this one was added behind them; and none but these letters, if there are any
+abbrev pub IsGrownBy : List ℕ → Texts → Texts → Type 0
+IsGrownBy text old new = (new ≡ old)
+    ⊎ ((one : Vec ℕ Global) × (one.items ≡ text) × (new ≡ old ++ one ∷ []))
+
+abbrev pub IsGrownByAny : Option (List ℕ) → Texts → Texts → Type 0
+IsGrownByAny None old new = new ≡ old
+IsGrownByAny (Some letters) old new = IsGrownBy letters old new

@@ -7,6 +7,7 @@ pub mod ReachMeaning
 pub mod CommandSteps
 pub mod ImpactLine
 pub mod ImpactMeaning
+pub mod Misfits
 pub mod ReachLaws
 pub mod Known
 pub mod KnownSteps

@@ -1,7 +1,9 @@
 //! The paths of a listing, and the letters of their files.
-ghost use Rattle.std.specs.Prelude.{◌≡◌, ◌++◌, ◌∷◌, [], false, IfOk, OnOk, Some, true};
+ghost use Rattle.std.specs.Prelude.{◌≡◌, ◌++◌, ◌∷◌, [], false, IfOk, OnOk, Some};
+ghost use Rattle.std.specs.Bool.{Decides};
 ghost use Rattle.std.specs.Prelude.{length, map, option_map, slice_get};
-ghost use Rattle.acl_listing_reach.specs.KnownSteps.{IsGrown, IsWithin, at_in, letters_in};
+ghost use Rattle.acl_listing_reach.specs.KnownSteps.{IsGrownBy, IsGrownByAny, IsWithin, at_in};
+ghost use Rattle.acl_listing_reach.specs.KnownSteps.{letters_in};
 ghost use Rattle.acl_listing_reach.specs.Known.{shown_path};
 ghost use Rattle.acl_listing_reach.specs.Once.{At, has_path, letters_for};
 
@@ -44,7 +46,7 @@ impl Model for KnownPaths {
 
 /// Whether these letters are those at the place.
 fn are_at(known: &IndexSet<Vec<u8>>, place: usize, letters: &[u8]) -> bool
-    ensures { result ≡ true → letters_in known.now.keys (Some place) ≡ Some letters.now }
+    ensures { Decides result (letters_in known.now.keys (Some place) ≡ Some letters.now) }
 {
     match known.get_index(place) {
         Some(found) => found.as_slice() == letters,
@@ -60,7 +62,7 @@ fn place_for(
 ) -> Result<usize, AllocError>
     ensures there { IfOk result (λ place. letters_in known.new.keys (Some place)
         ≡ Some letters.now) }
-    ensures grown { IsGrown known.old.keys known.new.keys }
+    ensures grown { IsGrownBy letters.now known.old.keys known.new.keys }
 {
     if let Some((place, found)) = known.get_full(letters) {
         if found.as_slice() == letters {
@@ -82,7 +84,7 @@ fn guessed_place_for(
 ) -> Result<usize, AllocError>
     ensures there { IfOk result (λ place. letters_in known.new.keys (Some place)
         ≡ Some letters.now) }
-    ensures grown { IsGrown known.old.keys known.new.keys }
+    ensures grown { IsGrownBy letters.now known.old.keys known.new.keys }
 {
     let at = place_for_text(letters);
     let guess = guesses[at];
@@ -104,7 +106,8 @@ fn place_for_any(
     ensures there { IfOk result (λ place. letters_in known.new.keys place
         ≡ option_map (λ letters. letters.now) letters.entry) }
     ensures within { IfOk result (IsWithin (length known.new.keys)) }
-    ensures grown { IsGrown known.old.keys known.new.keys }
+    ensures grown { IsGrownByAny (option_map (λ letters. letters.now) letters.entry)
+        known.old.keys known.new.keys }
 {
     match letters {
         Some(letters) => Ok(Some(guessed_place_for(alloc, known, guesses, letters)?)),

@@ -1,6 +1,7 @@
 //! Words of `impact` that are wrong together.
-ghost use Rattle.std.specs.Prelude.{◌≡◌, option_map};
+ghost use Rattle.std.specs.Prelude.{◌≡◌, IfSome, option_map};
 ghost use Rattle.clap.specs.Words.{found_of, rows_of};
+ghost use Rattle.acl_listing_reach.specs.Misfits.{misfit_message};
 ghost use Rattle.acl_listing_reach.specs.ImpactMeaning.{misfit_in};
 
 use acl_cli::fields::{flag_field, text_field};
@@ -17,8 +18,9 @@ pub(crate) struct Misfit {
 /// What is wrong with the words together, of which the parser knows nothing: `--accounts-after`
 /// wants `--reach`, and `--text` excludes it.
 pub(crate) fn find_misfit(matches: &ArgMatches<'_>) -> Option<Misfit>
-    ensures { option_map (λ misfit. misfit.kind) result
+    ensures kind { option_map (λ misfit. misfit.kind) result
         ≡ misfit_in (rows_of (found_of matches.now)) }
+    ensures message { IfSome result (λ misfit. misfit.message.now ≡ misfit_message misfit.kind) }
 {
     if flag_field(matches, "reach") {
         if flag_field(matches, "text") {

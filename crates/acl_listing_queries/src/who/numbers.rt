@@ -1,6 +1,6 @@
 //! The numbers of permissions that were reported last.
-ghost use Rattle.std.specs.Prelude.{◌≡◌, ◌++◌, IfOk, IfSome, List, OnOk, map, true, ℕ};
-ghost use Rattle.std.specs.Bool.{MatchBool};
+ghost use Rattle.std.specs.Prelude.{◌≡◌, ◌++◌, IfOk, IfSome, List, OnOk, map, ℕ};
+ghost use Rattle.std.specs.Bool.{Decides, MatchBool};
 ghost use Rattle.acl_posix.specs.Perms.{bits_of};
 ghost use Rattle.acl_listing_queries.specs.WhoSteps.{AreNumbersOf, numbers_of_each};
 
@@ -12,14 +12,14 @@ use std::marker::Model;
 
 /// Whether the permissions are the same.
 fn are_same_letters(letters: &[Perms], others: &[Perms]) -> bool
-    ensures { result ≡ true → map bits_of letters.now ≡ map bits_of others.now }
+    ensures { Decides result (map bits_of letters.now ≡ map bits_of others.now) }
 {
     letters == others
 }
 
 /// Whether the same places are set.
 fn are_same_marks(marks: &[bool], others: &[bool]) -> bool
-    ensures { result ≡ true → marks.now ≡ others.now }
+    ensures { Decides result (marks.now ≡ others.now) }
 {
     marks == others
 }

@@ -10,4 +10,4 @@ same_mark false false = (λ e. refl, λ e. refl)
 same_mark _ _ = (λ e. absurd (true≢false (sym e)), λ e. absurd cc)
 
 pub returns : goal.returns
-returns c = (slice_eq-Decides same_mark c.args.marks.now c.args.others.now c.eq.result c.eq.ensures).0
+returns c = slice_eq-Decides same_mark c.args.marks.now c.args.others.now c.eq.result c.eq.ensures

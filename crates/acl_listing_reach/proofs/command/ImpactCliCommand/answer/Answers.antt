@@ -17,7 +17,7 @@ returns-in-Some g c =
     let input = g.I.Read.remaining c.args.input.now in
     let rows : List Row = rows_of (found_of c.args.matches.now) in
     let asked = meaning_if (flag_in (codes "reach") rows) (reach_meaning files input rows) (lists_meaning files input rows) in
-    let wrong : misfit_in rows ≡ Some c.in-Some.misfit.kind = sym c.find_misfit.ensures ∙ ap (option_map (λ misfit. misfit.kind)) c.in-Some.is in
+    let wrong : misfit_in rows ≡ Some c.in-Some.misfit.kind = sym c.find_misfit.ensures.kind ∙ ap (option_map (λ misfit. misfit.kind)) c.in-Some.is in
     let failure : Failure = c.wrong_usage.result in
     let fails : (impact_meaning files input rows).Fails failure =
     subst (λ (misfit : Option ErrorKind). (unless_misfit misfit asked).Fails failure) (sym wrong) c.wrong_usage.ensures in
@@ -28,7 +28,7 @@ returns-then-flag_field g c =
     let files = g.F.OpenFiles.bytes_of c.args.files.now in
     let input = g.I.Read.remaining c.args.input.now in
     let rows : List Row = rows_of (found_of c.args.matches.now) in
-    let fits : misfit_in rows ≡ None = sym c.find_misfit.ensures ∙ ap (option_map (λ misfit. misfit.kind)) c.in_default.is in
+    let fits : misfit_in rows ≡ None = sym c.find_misfit.ensures.kind ∙ ap (option_map (λ misfit. misfit.kind)) c.in_default.is in
     let flag : flag_in (codes "reach") rows ≡ true = sym c.flag_field.ensures ∙ c.if-flag_field.true in
     let Ends = λ (misfit : Option ErrorKind) (asked : Bool). Comes (unless_misfit misfit (meaning_if asked (reach_meaning files input rows) (lists_meaning files input rows)))
     c.report_by_reach.result (g.W.Write.contents c.args.out.now) (g.W.Write.contents c.report_by_reach.new.out) c.args.err.now c.report_by_reach.new.err c.args.input.now
@@ -40,7 +40,7 @@ returns-else-flag_field g c =
     let files = g.F.OpenFiles.bytes_of c.args.files.now in
     let input = g.I.Read.remaining c.args.input.now in
     let rows : List Row = rows_of (found_of c.args.matches.now) in
-    let fits : misfit_in rows ≡ None = sym c.find_misfit.ensures ∙ ap (option_map (λ misfit. misfit.kind)) c.in_default.is in
+    let fits : misfit_in rows ≡ None = sym c.find_misfit.ensures.kind ∙ ap (option_map (λ misfit. misfit.kind)) c.in_default.is in
     let flag : flag_in (codes "reach") rows ≡ false = sym c.flag_field.ensures ∙ c.if-flag_field.false in
     let Ends = λ (misfit : Option ErrorKind) (asked : Bool). Comes (unless_misfit misfit (meaning_if asked (reach_meaning files input rows) (lists_meaning files input rows)))
     c.report_impact.result (g.W.Write.contents c.args.out.now) (g.W.Write.contents c.report_impact.new.out) c.args.err.now c.report_impact.new.err c.args.input.now

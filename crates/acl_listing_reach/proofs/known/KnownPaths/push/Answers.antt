@@ -3,15 +3,15 @@ use Rattle.std.specs.Map.{lookup}
 use Rattle.indexmap.proofs.CallerLemmas.{insert_entry-new}
 use Rattle.acl_listing_reach.specs.KnownSteps.{AreWithin, Kept, at_in}
 use Rattle.acl_listing_reach.specs.Once.{At, has_path}
-use Rattle.acl_listing_reach.proofs.KnownLemmas.{grown_within, is_key, no_entry, path_more, within_more}
+use Rattle.acl_listing_reach.proofs.KnownLemmas.{grown_by, grown_within, is_key, no_entry, path_more, within_more}
 use Rattle.acl_listing_reach.proofs.known.KnownPaths.push.Goals as goal
 use Rattle.acl_listing_reach.proofs.known.KnownPaths.push.Goals.{in-Ok, in-Err}
 
 pub invariant_of-self : goal.invariant_of-self
-invariant_of-self c = grown_within c.self.inside.letters.keys c.place_for_any.new.known.keys c.place_for_any.ensures.grown c.self.inside.paths.entries c.self.invariant
+invariant_of-self c = grown_within c.self.inside.letters.keys c.place_for_any.new.known.keys (grown_by (option_map (λ letters. letters.now) c.args.letters) c.self.inside.letters.keys c.place_for_any.new.known.keys c.place_for_any.ensures.grown) c.self.inside.paths.entries c.self.invariant
 
 pub invariant_of-self-in_err-from_slice : goal.invariant_of-self-in_err-from_slice
-invariant_of-self-in_err-from_slice c = grown_within c.self.inside.letters.keys c.place_for_any.new.known.keys c.place_for_any.ensures.grown c.self.inside.paths.entries c.self.invariant
+invariant_of-self-in_err-from_slice c = grown_within c.self.inside.letters.keys c.place_for_any.new.known.keys (grown_by (option_map (λ letters. letters.now) c.args.letters) c.self.inside.letters.keys c.place_for_any.new.known.keys c.place_for_any.ensures.grown) c.self.inside.paths.entries c.self.invariant
 
 pub invariant_of-self-2 : goal.invariant_of-self-2
 invariant_of-self-2 c =
@@ -20,7 +20,7 @@ invariant_of-self-2 c =
     let paths = c.self.inside.paths in
     let key = c.in_ok-from_slice.field-0 in
     let entry : Kept = (key, c.in_ok-place.place) in
-    let within = grown_within old new c.place_for_any.ensures.grown paths.entries c.self.invariant in
+    let within = grown_within old new (grown_by (option_map (λ letters. letters.now) c.args.letters) c.self.inside.letters.keys c.place_for_any.new.known.keys c.place_for_any.ensures.grown) paths.entries c.self.invariant in
     let lacks : has_path key.items (map (at_in old) paths.entries) ≡ false =
     ap (λ path. has_path path (map (at_in old) paths.entries)) c.in_ok-from_slice.ensures.items ∙ ap (has_path c.args.path.now) c.self.view_is ∙ c.requires in
     let none : lookup (is_key key.items old) paths.entries ≡ None = no_entry key.items old paths.entries lacks in
@@ -42,7 +42,7 @@ returns c =
     ap (λ path. has_path path (map (at_in old) paths.entries)) c.in_ok-from_slice.ensures.items ∙ ap (has_path c.args.path.now) c.self.view_is ∙ c.requires in
     let none : lookup (is_key key.items old) paths.entries ≡ None = no_entry key.items old paths.entries lacks in
     let more : map (at_in new) (paths.entries ++ entry ∷ []) ≡ map (at_in old) paths.entries ++ record { path = key.items; letters = letters } ∷ [] =
-    path_more old new c.place_for_any.ensures.grown paths.entries c.self.invariant entry letters c.in_ok-place.ensures.there in
+    path_more old new (grown_by (option_map (λ letters. letters.now) c.args.letters) c.self.inside.letters.keys c.place_for_any.new.known.keys c.place_for_any.ensures.grown) paths.entries c.self.invariant entry letters c.in_ok-place.ensures.there in
     let path : map (at_in old) paths.entries ++ record { path = key.items; letters = letters } ∷ [] ≡ c.args.self.now ++ record { path = c.args.path.now; letters = letters } ∷ [] =
     ap (λ (path : List ℕ). map (at_in old) paths.entries ++ record { path = path; letters = letters } ∷ []) c.in_ok-from_slice.ensures.items
     ∙ ap (λ (ats : List At). ats ++ record { path = c.args.path.now; letters = letters } ∷ []) c.self.view_is in
