@@ -1,3 +1,4 @@
+pub mod Evaluated
 pub mod Letters
 pub mod Changes
 pub mod ListSteps

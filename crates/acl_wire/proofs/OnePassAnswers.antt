@@ -23,10 +23,11 @@ use Rattle.acl_posix.proofs.FaultLemmas.{none_counted}
 use Rattle.acl_posix.proofs.InOrderLemmas.{in_order-canonical}
 use Rattle.acl_posix.proofs.LinuxLemmas.{by_itself, linux-group, linux-other, linux-owner}
 use Rattle.acl_posix.proofs.ValidityLemmas.{IsValid-from_fault_of}
-use Rattle.acl_wire.specs.Check.{answer_of, looked_at}
+use Rattle.acl_access.specs.Evaluated.{evaluated_by}
+use Rattle.acl_wire.specs.Check.{answer_of}
 use Rattle.acl_wire.specs.OnePass.{IsSeen, is_complete, is_linux}
-use Rattle.acl_wire.specs.declared.check.Rules.{Rules}
-use Rattle.acl_wire.specs.declared.check.Rules.TheVariants.{Draft, Linux}
+use Rattle.acl_access.specs.declared.rules.Rules.{Rules}
+use Rattle.acl_access.specs.declared.rules.Rules.TheVariants.{Draft, Linux}
 use Rattle.acl_wire.specs.declared.one_pass.Seen.{Seen}
 
 some_cond : (b answer : Bool) → is_some (cond b (Some answer) None) ≡ b
@@ -94,7 +95,7 @@ module _ (requester : Identity) (group request : ℕ) (entries : List EntryValue
   valid = IsValid-from_fault_of entries nothing_wrong
 
   -- the list is the entries as they stand
-  pub answer-list : (rules : Rules) (owner : ℕ) → answer_of rules entries owner group requester request ≡ Ok (grants (looked_at rules entries) owner group requester request)
+  pub answer-list : (rules : Rules) (owner : ℕ) → answer_of rules entries owner group requester request ≡ Ok (grants (evaluated_by rules entries) owner group requester request)
   answer-list rules owner =
       let same : in_order entries ≡ entries = in_order-canonical entries entries is.canonical (IsPermutation-refl entries) in
       rw (nothing_wrong, same) refl
@@ -109,7 +110,7 @@ module _ (requester : Identity) (group request : ℕ) (entries : List EntryValue
   abbrev passes : Rules → Bool
   passes rules = is_linux rules && option_map_or (λ mask. bits_of mask == 0) seen.mask false
 
-  looked : (rules : Rules) → passes rules ≡ false → looked_at rules entries ≡ entries
+  looked : (rules : Rules) → passes rules ≡ false → evaluated_by rules entries ≡ entries
   looked Draft is_not = refl
   looked Linux is_not = by_itself entries (empty ∙ is_not)
 
@@ -132,7 +133,7 @@ module _ (requester : Identity) (group request : ℕ) (entries : List EntryValue
     ]
       where
         over : (r : Rules) → passes r ≡ true
-            → grants (looked_at r entries) owner group requester request ≡ tag_has UserObj entries request
+            → grants (evaluated_by r entries) owner group requester request ≡ tag_has UserObj entries request
         over Draft passed = absurd (cc)
         over Linux passed = linux-owner entries valid (empty ∙ passed) owner group requester request asks
 
@@ -141,14 +142,14 @@ module _ (requester : Identity) (group request : ℕ) (entries : List EntryValue
       pub over-group : passes rules ≡ true → is_in_group requester group ≡ true → reported (has_all 0 request)
       over-group passed inside = answer-list rules owner ∙ ap Ok (go rules passed)
         where
-          go : (r : Rules) → passes r ≡ true → grants (looked_at r entries) owner group requester request ≡ has_all 0 request
+          go : (r : Rules) → passes r ≡ true → grants (evaluated_by r entries) owner group requester request ≡ has_all 0 request
           go Draft passed_it = absurd (cc)
           go Linux passed_it = linux-group entries valid (empty ∙ passed_it) owner group requester request not_owner inside
 
       pub over-other : passes rules ≡ true → is_in_group requester group ≡ false → reported (unwrap_or seen.other false)
       over-other passed outside = answer-list rules owner ∙ ap Ok (go rules passed ∙ sym others_have)
         where
-          go : (r : Rules) → passes r ≡ true → grants (looked_at r entries) owner group requester request ≡ tag_has Other entries request
+          go : (r : Rules) → passes r ≡ true → grants (evaluated_by r entries) owner group requester request ≡ tag_has Other entries request
           go Draft passed_it = absurd (cc)
           go Linux passed_it = linux-other entries valid (empty ∙ passed_it) owner group requester request not_owner outside
 

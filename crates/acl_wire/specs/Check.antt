@@ -1,32 +1,26 @@
 -- Checks of POSIX lists in bytes.
 use Rattle.std.specs.Prelude.{◌&&◌, ℕ, Bool, List, Result, Ok, Err, nat_le, nat_lt}
 use Rattle.std.specs.Prelude.{if◌then◌else◌}
+use Rattle.acl_access.specs.Evaluated.{evaluated_by}
+use Rattle.acl_access.specs.declared.rules.Rules.{Rules}
 use Rattle.acl_names.specs.Requester.{Identity}
 use Rattle.acl_names.specs.Steps.{◌>>=◌}
 use Rattle.acl_names.specs.declared.limits.TheConstants.{MAX_ID}
 use Rattle.acl_posix.specs.Access.{grants}
 use Rattle.acl_posix.specs.Entry.{EntryValue}
-use Rattle.acl_posix.specs.Linux.{linux_list}
 use Rattle.acl_wire.specs.Posix.{acl_of, acl_of_entries}
-use Rattle.acl_wire.specs.declared.check.Rules.{Rules}
-use Rattle.acl_wire.specs.declared.check.Rules.TheVariants.{Draft, Linux}
 use Rattle.acl_wire.specs.declared.fault.PosixFault.{PosixFault}
 use Rattle.acl_wire.specs.declared.fault.PosixFault.TheVariants as faults
-
--- the list by which these rules decide
-abbrev pub looked_at : Rules → List EntryValue → List EntryValue
-looked_at Draft acl = acl
-looked_at Linux acl = linux_list acl
 
 -- whether the list of these entries grants a request
 abbrev pub answer_of : Rules → List EntryValue → ℕ → ℕ → Identity → ℕ → Result Bool PosixFault
 answer_of rules entries owner group requester request = acl_of_entries entries
-    >>= λ acl. Ok (grants (looked_at rules acl) owner group requester request)
+    >>= λ acl. Ok (grants (evaluated_by rules acl) owner group requester request)
 
 -- the same of the list of bytes
 abbrev pub answer_in : Rules → List ℕ → ℕ → ℕ → Identity → ℕ → Result Bool PosixFault
 answer_in rules bytes owner group requester request = acl_of bytes
-    >>= λ acl. Ok (grants (looked_at rules acl) owner group requester request)
+    >>= λ acl. Ok (grants (evaluated_by rules acl) owner group requester request)
 
 -- whether the numbers of a check are ids, and permissions
 abbrev pub are_check : ℕ → ℕ → ℕ → ℕ → Bool

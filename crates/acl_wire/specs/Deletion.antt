@@ -2,6 +2,8 @@
 use Rattle.std.specs.Prelude.{◌&&◌, ◌+◌, ◌^◌, ℕ, Bool, true, false, List, Option, Some, None}
 use Rattle.std.specs.Prelude.{Result, Ok, Err, nat_le, if◌then◌else◌}
 use Rattle.acl_access.specs.Deletes.{delete, delete_child, deletes}
+use Rattle.acl_access.specs.Evaluated.{evaluated_by}
+use Rattle.acl_access.specs.declared.rules.Rules.{Rules}
 use Rattle.acl_bridge.specs.Files.{File}
 use Rattle.acl_bridge.specs.declared.any_acl.AnyAcl.{AnyAcl}
 use Rattle.acl_bridge.specs.declared.any_acl.AnyAcl.TheVariants.{Posix, Nfs4}
@@ -10,11 +12,9 @@ use Rattle.acl_names.specs.Requester.{Identity}
 use Rattle.acl_names.specs.Steps.{◌>>=◌}
 use Rattle.acl_names.specs.declared.limits.TheConstants.{MAX_ID}
 use Rattle.acl_nfs4.specs.Mask.{write_data}
-use Rattle.acl_wire.specs.Check.{looked_at}
 use Rattle.acl_wire.specs.Decision.{decided_by}
 use Rattle.acl_wire.specs.Nfs4.{are_ids}
 use Rattle.acl_wire.specs.Posix.{acl_of}
-use Rattle.acl_wire.specs.declared.check.Rules.{Rules}
 use Rattle.acl_wire.specs.declared.decision.Decided.{Decided}
 use Rattle.acl_wire.specs.declared.fault.Nfs4Fault.{Nfs4Fault}
 use Rattle.acl_wire.specs.declared.fault.Nfs4Fault.TheVariants as nfs4
@@ -51,7 +51,7 @@ unfoldable pub xattr_deletion : Rules → Bool → List ℕ → ℕ → ℕ → 
 xattr_deletion rules sticky bytes folder_owner folder_group file requester =
     if are_ids folder_owner folder_group requester.uid && nat_le file.owners.owner MAX_ID
     then acl_of bytes >>= (λ acl.
-    Ok (deletes sticky (file_of (Posix (looked_at rules acl)) folder_owner folder_group) file
+    Ok (deletes sticky (file_of (Posix (evaluated_by rules acl)) folder_owner folder_group) file
     requester))
     else Err posix.Argument
 

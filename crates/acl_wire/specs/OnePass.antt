@@ -5,6 +5,8 @@ use Rattle.std.specs.Prelude.{◌∷◌, Option, Some, None, is_some, option_map
 use Rattle.std.specs.Prelude.{nat_lt, if◌then◌else◌}
 use Rattle.std.specs.List.{All}
 use Rattle.std.specs.Option.{option_and_then}
+use Rattle.acl_access.specs.declared.rules.Rules.{Rules}
+use Rattle.acl_access.specs.declared.rules.Rules.TheVariants.{Draft, Linux}
 use Rattle.acl_names.specs.Bits.{has_all}
 use Rattle.acl_names.specs.Requester.{Identity}
 use Rattle.acl_posix.specs.Access.{is_for_group_of}
@@ -16,8 +18,6 @@ use Rattle.acl_posix.specs.Perms.{bits_of}
 use Rattle.acl_posix.specs.Validity.{names_someone}
 use Rattle.acl_posix.specs.declared.entry.Tag.{Tag}
 use Rattle.acl_posix.specs.declared.entry.Tag.TheVariants.{UserObj, User, GroupObj, Mask, Other}
-use Rattle.acl_wire.specs.declared.check.Rules.{Rules}
-use Rattle.acl_wire.specs.declared.check.Rules.TheVariants.{Draft, Linux}
 use Rattle.acl_wire.specs.declared.fault.PosixFault.{PosixFault}
 use Rattle.acl_wire.specs.declared.one_pass.Seen.{Seen}
 

@@ -1,27 +1,20 @@
 //! Checks of POSIX lists in bytes.
 
 ghost use Rattle.std.specs.Prelude.{◌≡◌};
+ghost use Rattle.acl_access.specs.Evaluated.{evaluated_by};
 ghost use Rattle.acl_posix.specs.Access.{grants};
 ghost use Rattle.acl_posix.specs.Checked.{checked};
 ghost use Rattle.acl_posix.specs.Perms.{bits_of};
-ghost use Rattle.acl_wire.specs.Check.{answer_in, answer_of, check_of, looked_at};
+ghost use Rattle.acl_wire.specs.Check.{answer_in, answer_of, check_of};
 
 use crate::one_pass::in_order_grants;
 use crate::posix::refused;
 use crate::xattr_reading::entries_of;
 use crate::{Caller, PosixFault};
+use acl_access::Rules;
 use acl_names::{Gid, Uid};
 use acl_posix::{Entry, Invalid, Perms, entries_grant, entries_grant_on_linux};
 use bitflags::Flags;
-
-/// The rules by which a check is decided.
-#[derive(Clone, Copy, Debug, PartialEq, Eq)]
-pub enum Rules {
-    /// Those of 1003.1e draft 17, section 23.
-    Draft,
-    /// Those of Linux, which ignores a list whose mask is empty, and uses the mode.
-    Linux,
-}
 
 /// Whether the list of these entries grants the request, or what is wrong with them.
 fn decide(
@@ -32,7 +25,7 @@ fn decide(
     caller: &Caller<'_>,
     request: Perms,
 ) -> Result<bool, Invalid>
-    ensures { result ≡ checked (λ acl. grants (looked_at rules acl) owner group
+    ensures { result ≡ checked (λ acl. grants (evaluated_by rules acl) owner group
         (record { uid = caller.now.uid; gids = caller.now.gids.now }) (bits_of request))
         entries.old }
 {

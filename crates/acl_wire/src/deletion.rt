@@ -10,8 +10,8 @@ ghost use Rattle.acl_posix.specs.Entry.{EntryValue};
 ghost use Rattle.acl_wire.specs.Deletion.{file_of, raws_deletion, said_in, xattr_deletion};
 ghost use Rattle.acl_wire.specs.Nfs4.{are_ids};
 
-use crate::{Decided, Nfs4Fault, PosixFault, RawAce, Rules, raws_decide, xattr_grants};
-use acl_access::deletes_by;
+use crate::{Decided, Nfs4Fault, PosixFault, RawAce, raws_decide, xattr_grants};
+use acl_access::{Rules, deletes_by};
 use acl_names::{Gid, Uid};
 
 /// `ADD_FILE`, which is `WRITE_DATA` of a folder.

@@ -30,8 +30,9 @@ mod xdr_names;
 mod xdr_raws;
 mod xdr_writing;
 
+pub use acl_access::Rules;
 pub use caller::Caller;
-pub use check::{Rules, xattr_grants};
+pub use check::xattr_grants;
 pub use compare::{RawAsker, RawDifference, RawUnlike, raws_difference, xattr_difference};
 pub use creation::{Making, acl4_of_mode, mode_made, raws_created};
 pub use decision::{Decided, raws_allow, raws_decide, raws_grant};

@@ -13,9 +13,10 @@ ghost use Rattle.acl_wire.specs.OnePass.{IsSeen, after, after_read, goes_on, is_
 ghost use Rattle.acl_wire.specs.OnePass.{is_linux, joined, nothing_seen};
 ghost use Rattle.acl_wire.specs.XattrReading.{entries_at, entries_of, entry_of};
 
+use crate::Caller;
 use crate::numbers::u32_at;
 use crate::xattr_reading::{Fields, VERSION, fields_at};
-use crate::{Caller, Rules};
+use acl_access::Rules;
 use acl_names::{Gid, Subject, Uid};
 use acl_posix::{MAX_ENTRIES, Perms, Tag};
 use bitflags::Flags;
