@@ -22,6 +22,7 @@ view_one one = record { name = one.name.now; who = one.requester.now }
 abbrev pub asking_by : ImpactReporter → ImpactAsking
 asking_by reporter = record {
   names = names_of_host reporter.host.now;
+  rules = reporter.rules;
   concern = concern_by reporter.people.now reporter.each reporter.somebody;
   written = reporter.written;
   asks = reporter.asks;

@@ -18,8 +18,8 @@ use acl_cli::{
 };
 use acl_people::options::{ACCOUNTS, DOMAIN};
 use acl_people::{Host, Person, read_host};
-use acl_reports::listing_field;
-use acl_reports::options::LISTING;
+use acl_reports::options::{DRAFT, LISTING};
+use acl_reports::{listing_field, rules_field};
 use clap::ArgMatches;
 use std::alloc::Global;
 use std::io::{Read, Write};
@@ -56,7 +56,7 @@ known, as standard error reports.";
 pub struct Why;
 
 /// The words of the line, in the order of help.
-const WORDS: [Word<'static>; 7] = [
+const WORDS: [Word<'static>; 8] = [
     ACCOUNTS,
     DOMAIN,
     Word {
@@ -72,6 +72,7 @@ const WORDS: [Word<'static>; 7] = [
         value: "",
         help: "Reports why the user may delete, rename or replace it, or not; instead of --perms",
     },
+    DRAFT,
     LISTING,
     Word {
         given: Given::RequiredWord,
@@ -189,6 +190,7 @@ impl CliCommand for Why {
         let person = read_user(alloc, &host, matches)?;
         let question = Question {
             host: &host,
+            rules: rules_field(matches),
             requester: &person.requester,
             sought,
         };
