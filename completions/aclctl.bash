@@ -7,9 +7,9 @@ _aclctl_options() {
         explain) echo --owner --group --uid --gids --perms --help ;;
         compare) echo --owner --group --help ;;
         run) echo --setup --journal --max-errors --help ;;
-        who) echo --accounts --domain --perms --letters --delete --reach --via --user --help ;;
-        why) echo --accounts --domain --user --perms --delete --help ;;
-        impact) echo --accounts --accounts-after --domain --reach --all --user --text --exit-code --help ;;
+        who) echo --accounts --domain --perms --letters --delete --reach --via --draft --user --help ;;
+        why) echo --accounts --domain --user --perms --delete --draft --help ;;
+        impact) echo --accounts --accounts-after --domain --reach --draft --all --user --text --exit-code --help ;;
         restore) echo --help ;;
         translate) echo --accounts --domain --form --attributes --print0 --help ;;
         next) echo --user --mode --umask --dir --dirs-only --accounts --domain --help ;;
@@ -71,7 +71,7 @@ _aclctl_place() {
             place=$((place + 1))
         elif [[ $word == -- ]]; then
             is_ended=yes
-        elif [[ ! $word =~ =|^--(nfs4|journal|letters|reach|via|all|text|exit-code|attributes|print0|dir|dirs-only|help)$ ]]; then
+        elif [[ ! $word =~ =|^--(nfs4|journal|letters|reach|via|draft|all|text|exit-code|attributes|print0|dir|dirs-only|help)$ ]]; then
             option=$word
         fi
     done

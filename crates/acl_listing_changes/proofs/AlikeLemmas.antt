@@ -119,7 +119,7 @@ nothing_written false path = refl
 stays : (asking : ImpactAsking) (file : FileValue) → ReportsChange asking file file []
 stays asking file = record {
   impact = [];
-  impact_is = nobody (file_of file) (file_of file) (printed_path file.path) (alike_itself (file_of file)) asking.concern;
+  impact_is = nobody (file_of asking.rules file) (file_of asking.rules file) (printed_path file.path) (alike_itself (file_of asking.rules file)) asking.concern;
   written = [];
   written_is = (unchanged, is_unchanged file, nothing_written asking.written (printed_path file.path));
   text_is = refl;

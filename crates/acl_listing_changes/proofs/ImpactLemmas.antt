@@ -173,7 +173,7 @@ impact_reported concern before after path out mid out' those asked asked_is othe
     }
 
 -- and behind it what is written otherwise
-pub change_reported : (asking : ImpactAsking) (before after : FileValue) (old new : File) → old ≡ file_of before → new ≡ file_of after → (out mid out' : List ℕ)
+pub change_reported : (asking : ImpactAsking) (before after : FileValue) (old new : File) → old ≡ file_of asking.rules before → new ≡ file_of asking.rules after → (out mid out' : List ℕ)
     → Reports (ReportsImpact asking.concern old new (printed_path after.path)) out mid → (changed : Changed) → IsChanged before after changed → out' ≡ mid ++ changed_text asking.written changed (printed_path after.path)
     → Reports (ReportsChange asking before after) out out'
 change_reported asking before after old new old_is new_is out mid out' reported changed changed_is is =
@@ -182,7 +182,7 @@ change_reported asking before after old new old_is new_is out mid out' reported 
       text = reported.text ++ written;
       is = record {
         impact = reported.text;
-        impact_is = subst (λ (old : File). ReportsImpact asking.concern old (file_of after) (printed_path after.path) reported.text) old_is (subst (λ (new : File). ReportsImpact asking.concern old new (printed_path after.path) reported.text) new_is reported.is);
+        impact_is = subst (λ (old : File). ReportsImpact asking.concern old (file_of asking.rules after) (printed_path after.path) reported.text) old_is (subst (λ (new : File). ReportsImpact asking.concern old new (printed_path after.path) reported.text) new_is reported.is);
         written = written;
         written_is = (changed, changed_is, refl);
         text_is = refl;

@@ -13,6 +13,7 @@ use Rattle.acl_people.specs.People.{IsAskedFailure, asked_in}
 use Rattle.acl_people.specs.Person.{Person}
 use Rattle.acl_reports.specs.ListingMeaning.{bytes_named, inputs_of}
 use Rattle.acl_reports.specs.Strangers.{stranger_in}
+use Rattle.acl_reports.specs.RulesMeaning.{rules_in}
 use Rattle.acl_listing_changes.specs.ChangeMeaning.{FailsForListings, after_in, before_in}
 use Rattle.acl_listing_changes.specs.ChangeMeaning.{is_input_twice}
 use Rattle.acl_listing_changes.specs.Changes.{IsChangeAnswer, IsChangeBegun, Named, OfListings}
@@ -37,6 +38,7 @@ abbrev pub impact_asked : Host → List Person → List Row → ImpactAsking
 impact_asked host persons rows = record {
   names = names_of_host host;
   stranger = stranger_in host;
+  rules = rules_in rows;
   concern = concern_in persons rows;
   written = flag_in (codes "text") rows;
   asks = flag_in (codes "exit-code") rows;

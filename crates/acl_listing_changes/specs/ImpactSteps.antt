@@ -24,6 +24,7 @@ abbrev pub asking_by : ImpactReporter → ImpactAsking
 asking_by reporter = record {
   names = names_of_host reporter.host.now;
   stranger = stranger_in reporter.host.now;
+  rules = reporter.rules;
   concern = concern_by reporter.people.now reporter.each reporter.somebody;
   written = reporter.written;
   asks = reporter.asks;

@@ -13,6 +13,7 @@ use Rattle.acl_access.specs.Changes.{FindsAnybody, IsAlikeTo, IsChangeFor}
 use Rattle.acl_access.specs.Letters.{effective}
 use Rattle.acl_access.specs.Paths.{printed_path}
 use Rattle.acl_access.specs.declared.changes.Change.{Change}
+use Rattle.acl_access.specs.declared.rules.Rules.{Rules}
 use Rattle.acl_cli.specs.ErrorOutput.{line_of_words}
 use Rattle.acl_cli.specs.Reporting.{is_empty}
 use Rattle.acl_listings.specs.Block.{FileValue, file_by}
@@ -32,12 +33,13 @@ pub record Concern : Type 0 where
   pub each : Bool
   pub somebody : Bool
 
--- the names that blocks have, and which id without an account a block names first; whose lines are
--- printed; whether a path whose block differs as read has a line; and whether the exit status
--- reports that there is a line
+-- the names that blocks have, and which id without an account a block names first; the rules by
+-- which lists are evaluated; whose lines are printed; whether a path whose block differs as read has
+-- a line; and whether the exit status reports that there is a line
 pub record ImpactAsking : Type 0 where
   pub names : Names
   pub stranger : List ℕ → Option Stranger
+  pub rules : Rules
   pub concern : Concern
   pub written : Bool
   pub asks : Bool
@@ -98,7 +100,8 @@ pub record ReportsImpact (concern : Concern) (before after : File)
 pub record ReportsChange (asking : ImpactAsking) (before after : FileValue) (text : List ℕ) : Type 0
   where
     pub impact : List ℕ
-    pub impact_is : ReportsImpact asking.concern (file_of before) (file_of after)
+    pub impact_is : ReportsImpact asking.concern (file_of asking.rules before)
+        (file_of asking.rules after)
         (printed_path after.path) impact
     pub written : List ℕ
     pub written_is : ReportsWritten asking.written before after written
@@ -132,7 +135,7 @@ reported_at gone concern path file =
 abbrev pub reported_of : Bool → ImpactAsking → FileValue
     → List ℕ
 reported_of gone asking file = reported_at gone asking.concern (printed_path file.path)
-    (file_of file)
+    (file_of asking.rules file)
 
 abbrev pub reported_new : ImpactAsking → FileValue → List ℕ
 reported_new = reported_of false

@@ -23,6 +23,7 @@ use Rattle.acl_bridge.specs.declared.any_acl.AnyAcl.{AnyAcl}
 use Rattle.acl_bridge.specs.declared.any_acl.AnyAcl.TheVariants.{Posix, Nfs4}
 use Rattle.acl_access.specs.Deletes.{adds, delete_child, deletes_by, owns, said_of}
 use Rattle.acl_listings.specs.Block.{FileValue}
+use Rattle.acl_access.specs.declared.rules.Rules.TheVariants.{Linux}
 use Rattle.acl_reports.specs.Files.{deciding_list, file_of}
 use Rattle.acl_listing_lint.specs.Deletions.{AnybodyDeletes, IsUnnamed, anyone_adds, anyone_deletes, anyone_searches, is_everyone, other_has, said_to_anyone}
 
@@ -125,6 +126,6 @@ anybody_deletes sticky folder file requester is others =
     ∙ ap₂ (λ (a b : Bool). deletes_by None (said_to_anyone list) (a && b)) (adds_same list owners requester is) (free sticky (owns folder requester) (owns file requester) is.owner others.owner))
 
 -- a listed file is open by the list that decides access to it
-pub open_by : (sticky : Bool) (owners : Owners) (list : AnyAcl) (file : FileValue) → file_with owners list ≡ file_of file
-    → anyone_deletes sticky list ≡ anyone_deletes sticky (deciding_list file.lists)
+pub open_by : (sticky : Bool) (owners : Owners) (list : AnyAcl) (file : FileValue) → file_with owners list ≡ file_of Linux file
+    → anyone_deletes sticky list ≡ anyone_deletes sticky (deciding_list Linux file.lists)
 open_by sticky owners list file is = ap (λ (file : File). anyone_deletes sticky file.list) is

@@ -2,6 +2,7 @@
 use Rattle.std.specs.Prelude.{◌&&◌, ℕ, Bool, not, List, [], Option, Some, None, codes}
 use Rattle.std.specs.Prelude.{if◌then◌else◌}
 use Rattle.acl_access.specs.Paths.{printed_path}
+use Rattle.acl_access.specs.declared.rules.Rules.TheVariants.{Linux}
 use Rattle.acl_listings.specs.Folders.{says_folder}
 use Rattle.acl_listings.specs.Block.{FileValue}
 use Rattle.acl_listings.specs.Way.{is_above}
@@ -23,7 +24,7 @@ deletes_line name pending =
     found_line name pending.line (codes "anyone-deletes") (printed_path pending.path)
 
 abbrev pub is_open : FileValue → Bool
-is_open file = anyone_deletes file.flags.sticky (deciding_list file.lists)
+is_open file = anyone_deletes file.flags.sticky (deciding_list Linux file.lists)
 
 -- its line, if it says itself that it is a folder
 abbrev pub reported_at : List ℕ → ℕ → FileValue → List ℕ

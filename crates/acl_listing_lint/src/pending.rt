@@ -6,7 +6,7 @@ ghost use Rattle.acl_listing_lint.specs.Pending.{reported_before};
 
 use crate::deletions::anyone_deletes;
 use crate::found::push_start;
-use acl_access::push_printed_path;
+use acl_access::{Rules, push_printed_path};
 use acl_listings::{File, is_above, says_folder};
 use acl_reports::owners_and_list;
 use std::alloc::{AllocError, Global};
@@ -66,7 +66,7 @@ fn is_open(alloc: Global, file: File<'_>) -> Result<bool, AllocError>
     ensures { IfOk result (λ answer. answer ≡ is_open (view_file file.entry)) }
 {
     let sticky = file.flags.sticky;
-    let (_, list) = owners_and_list(alloc, file)?;
+    let (_, list) = owners_and_list(alloc, Rules::Linux, file)?;
     Ok(anyone_deletes(sticky, &list))
 }
 

@@ -4,7 +4,7 @@ use Rattle.std.specs.Prelude.{is_none, is_some}
 use Rattle.std.specs.List.{list_all, list_any}
 use Rattle.std.proofs.lemmas.Bool.{and_parts, or_parts}
 use Rattle.std.proofs.lemmas.List.Folds.{list_any-append}
-use Rattle.acl_bridge.specs.Files.{File}
+use Rattle.acl_listings.specs.Block.{FileValue}
 use Rattle.acl_listings.specs.Way.{begin_alike, is_above, is_absolute, is_folder_of, steps_of}
 use Rattle.acl_listings.proofs.PlaceLemmas.{LeadsBelow, above-is, above-of, holds-is, same-of}
 use Rattle.acl_listings.proofs.WayLemmas.{begin-trans, begin-turned, is_above-self, is_above-trans}
@@ -62,7 +62,7 @@ next-is folder here above known = by folder.path refl here.path refl
     never : false ≡ true → ⊥
     never is = cc
 
-    kept : (found : Option File) (known : Option (List File)) → IsSome (with_folder found known) → IsSome known
+    kept : (found : Option FileValue) (known : Option (List FileValue)) → IsSome (with_folder found known) → IsSome known
     kept (Some file) (Some above) is = refl
     kept (Some file) None is = absurd (never is)
     kept None known is = absurd (never is)

@@ -11,15 +11,16 @@ use Rattle.acl_names.specs.Names.{Names}
 use Rattle.acl_names.specs.Requester.{Identity}
 use Rattle.acl_access.specs.Marks.{both}
 use Rattle.acl_access.specs.Reach.{reaches}
+use Rattle.acl_access.specs.declared.rules.Rules.{Rules}
 use Rattle.acl_access.proofs.ReachLemmas.{both_are}
 use Rattle.acl_listings.specs.Block.{FileValue, file_by, path_of}
 use Rattle.acl_listings.specs.Faults.{IsFaultOf}
 use Rattle.acl_listings.specs.declared.fault.BlockFault.{BlockFault}
 use Rattle.acl_listings.proofs.PathLemmas.{path_of-file}
-use Rattle.acl_bridge.specs.Files.{File, may}
+use Rattle.acl_bridge.specs.Files.{may}
 use Rattle.acl_listings.specs.declared.fault.FileFault.{FileFault}
 use Rattle.acl_listings.specs.declared.fault.FileFault.TheVariants as file
-use Rattle.acl_reports.specs.Files.{file_of}
+use Rattle.acl_reports.specs.Files.{file_of, files_of}
 use Rattle.acl_reports.specs.Reporting.{IsPart, UnlessMemory}
 use Rattle.acl_listing_queries.specs.Readings.{Reading, reading_of}
 use Rattle.acl_listing_queries.specs.RootSteps.{IsBegun}
@@ -203,54 +204,55 @@ known_part users one earlier text file result old new same reach reads reported 
 
 -- ---- where a block's answers are kept
 
-pub some_way : (who : List Identity) (way : Option (List File)) (marks : List Bool) → Some marks ≡ marks_of who way → (above : List File) × (way ≡ Some above) × (marks ≡ map (reaches above) who)
-some_way who (Some above) marks is = (above, refl, by is)
+pub some_way : (users : Users) (way : Option (List FileValue)) (marks : List Bool) → Some marks ≡ marks_of users way
+    → (above : List FileValue) × (way ≡ Some above) × (marks ≡ map (reaches (files_of users.rules above)) (whos_of users))
+some_way users (Some above) marks is = (above, refl, by is)
   where
-    by : Some marks ≡ Some (map (reaches above) who) → marks ≡ map (reaches above) who
+    by : Some marks ≡ Some (map (reaches (files_of users.rules above)) (whos_of users)) → marks ≡ map (reaches (files_of users.rules above)) (whos_of users)
     by is = cc
-some_way who None marks is = cc
+some_way users None marks is = cc
 
-abbrev folder_said : Option (List ℕ) → Result FileValue BlockFault → Option File
+abbrev folder_said : Option (List ℕ) → Result FileValue BlockFault → Option FileValue
 folder_said path said = folder_of (record { path = path; file = said })
 
 pub no_folders_to : (block : Reading) (way : List Reading) (fault : BlockFault) → block.file ≡ Err fault → folders_to block way ≡ None
 no_folders_to block way fault is = ap (λ said. with_folder (folder_said block.path said) (chain_to way block)) is
 
 searched : (users : Users) (file : FileValue) (kept : Kept) → users.reach ≡ true → AreAnswersOf users file kept
-    → kept.search.items ≡ map (λ user. may (file_of file) user 1) (whos_of users)
+    → kept.search.items ≡ map (λ user. may (file_of users.rules file) user 1) (whos_of users)
 searched users file kept asks are =
-    (subst (λ asks. IsSearch (whos_of users) asks (file_of file) kept.search.items) asks are.search)
+    (subst (λ asks. IsSearch (whos_of users) asks (file_of users.rules file) kept.search.items) asks are.search)
 
 -- how users stand to a file, as it is kept
-pub standings_are : (whos : List Identity) (question : Question) (file : FileValue) (granted : Granted) → IsAnswered whos question file.flags.sticky (file_of file) granted
-    → standings_kept granted ≡ standings_for question whos (Ok file)
-standings_are whos (What asked) file (Letters letters) is = refl
-standings_are whos (What asked) file (Numbered letters) is = refl
-standings_are whos (What asked) file (Masks masks) is = refl
-standings_are whos (What asked) file (Those places) is = refl
-standings_are whos (What asked) file (Entries decided) is = refl
-standings_are whos (Via asked) file (Letters letters) is = absurd is
-standings_are whos (Via asked) file (Numbered letters) is = absurd is
-standings_are whos (Via asked) file (Masks masks) is = absurd is
-standings_are whos (Via asked) file (Those places) is = absurd is
-standings_are whos (Via asked) file (Standings standings) is = absurd is
-standings_are whos (Via asked) file (Entries decided) is = refl
-standings_are whos (What ThreeLetters) file (Standings standings) is = absurd is
-standings_are whos (What Numbers) file (Standings standings) is = absurd is
-standings_are whos (What AllLetters) file (Standings standings) is = absurd is
-standings_are whos (What (Request perms)) file (Standings standings) is = absurd is
-standings_are whos Deletion file (Letters letters) is = absurd is
-standings_are whos Deletion file (Numbered letters) is = absurd is
-standings_are whos Deletion file (Masks masks) is = absurd is
-standings_are whos Deletion file (Those places) is = absurd is
-standings_are whos Deletion file (Entries decided) is = absurd is
-standings_are whos Deletion file (Standings standings) is = is
+pub standings_are : (rules : Rules) (whos : List Identity) (question : Question) (file : FileValue) (granted : Granted) → IsAnswered whos question file.flags.sticky (file_of rules file) granted
+    → standings_kept granted ≡ standings_for rules question whos (Ok file)
+standings_are rules whos (What asked) file (Letters letters) is = refl
+standings_are rules whos (What asked) file (Numbered letters) is = refl
+standings_are rules whos (What asked) file (Masks masks) is = refl
+standings_are rules whos (What asked) file (Those places) is = refl
+standings_are rules whos (What asked) file (Entries decided) is = refl
+standings_are rules whos (Via asked) file (Letters letters) is = absurd is
+standings_are rules whos (Via asked) file (Numbered letters) is = absurd is
+standings_are rules whos (Via asked) file (Masks masks) is = absurd is
+standings_are rules whos (Via asked) file (Those places) is = absurd is
+standings_are rules whos (Via asked) file (Standings standings) is = absurd is
+standings_are rules whos (Via asked) file (Entries decided) is = refl
+standings_are rules whos (What ThreeLetters) file (Standings standings) is = absurd is
+standings_are rules whos (What Numbers) file (Standings standings) is = absurd is
+standings_are rules whos (What AllLetters) file (Standings standings) is = absurd is
+standings_are rules whos (What (Request perms)) file (Standings standings) is = absurd is
+standings_are rules whos Deletion file (Letters letters) is = absurd is
+standings_are rules whos Deletion file (Numbered letters) is = absurd is
+standings_are rules whos Deletion file (Masks masks) is = absurd is
+standings_are rules whos Deletion file (Those places) is = absurd is
+standings_are rules whos Deletion file (Entries decided) is = absurd is
+standings_are rules whos Deletion file (Standings standings) is = is
 
 -- and if it doesn't read
-pub no_standings : (whos : List Identity) (question : Question) (said : Result FileValue BlockFault) (fault : BlockFault) → said ≡ Err fault → [] ≡ standings_for question whos said
-no_standings whos (What asked) said fault is = refl
-no_standings whos (Via asked) said fault is = refl
-no_standings whos Deletion said fault is = ap (standings_for Deletion whos) (sym is)
+pub no_standings : (rules : Rules) (whos : List Identity) (question : Question) (said : Result FileValue BlockFault) (fault : BlockFault) → said ≡ Err fault → [] ≡ standings_for rules question whos said
+no_standings rules whos (What asked) said fault is = refl
+no_standings rules whos (Via asked) said fault is = refl
+no_standings rules whos Deletion said fault is = ap (standings_for rules Deletion whos) (sym is)
 
 -- ---- what is known of a folder
 
@@ -270,31 +272,31 @@ module _ (answers : Answers) (place : ℕ) (block : Reading) (at : IsPlacedAt an
       by : {other : Kept} → Some kept ≡ Some other → kept ≡ other
       by is = cc
 
-  pub standings_there : (kept : Kept) → Some kept ≡ kept_at answers.kept.items place → standings_kept kept.granted ≡ standings_for (question_by users) (whos_of users) block.file
+  pub standings_there : (kept : Kept) → Some kept ≡ kept_at answers.kept.items place → standings_kept kept.granted ≡ standings_for users.rules (question_by users) (whos_of users) block.file
   standings_there kept there =
       ap (λ (kept : Kept). standings_kept kept.granted) (same_kept kept there)
-      ∙ standings_are (whos_of users) (question_by users) at.0 at.2.kept.granted at.2.are.granted
-      ∙ ap (standings_for (question_by users) (whos_of users)) (sym at.1)
+      ∙ standings_are users.rules (whos_of users) (question_by users) at.0 at.2.kept.granted at.2.are.granted
+      ∙ ap (standings_for users.rules (question_by users) (whos_of users)) (sym at.1)
 
   module _ (way : List Reading) where
-    pub below_reach : users.reach ≡ true → (kept : Kept) (marks made : List Bool) → Some kept ≡ kept_at answers.kept.items place → Some marks ≡ marks_of (whos_of users) (chain_to way block)
-        → made ≡ both kept.search.items marks → Some made ≡ marks_of (whos_of users) (folders_to block way)
+    pub below_reach : users.reach ≡ true → (kept : Kept) (marks made : List Bool) → Some kept ≡ kept_at answers.kept.items place → Some marks ≡ marks_of users (chain_to way block)
+        → made ≡ both kept.search.items marks → Some made ≡ marks_of users (folders_to block way)
     below_reach asks kept marks made there shown is =
         let who = whos_of users in
-        let folder = file_of at.0 in
-        let known = some_way who (chain_to way block) marks shown in
-        let all : made ≡ map (reaches (folder ∷ known.0)) who =
+        let folder = file_of users.rules at.0 in
+        let known = some_way users (chain_to way block) marks shown in
+        let all : made ≡ map (reaches (folder ∷ files_of users.rules known.0)) who =
         is ∙ ap (λ (kept : Kept). both kept.search.items marks) (same_kept kept there) ∙ ap (λ search. both search marks) (searched users at.0 at.2.kept asks at.2.are)
-        ∙ ap (both (map (λ user. may folder user 1) who)) known.2 ∙ both_are (λ user. may folder user 1) (reaches known.0) who in
+        ∙ ap (both (map (λ user. may folder user 1) who)) known.2 ∙ both_are (λ user. may folder user 1) (reaches (files_of users.rules known.0)) who in
         ap (λ (marks : List Bool). Some marks) all
-        ∙ sym (ap (λ said. marks_of who (with_folder (folder_said block.path said) (chain_to way block))) at.1 ∙ ap (λ way. marks_of who (with_folder (Some folder) way)) known.1)
+        ∙ sym (ap (λ said. marks_of users (with_folder (folder_said block.path said) (chain_to way block))) at.1 ∙ ap (λ way. marks_of users (with_folder (Some at.0) way)) known.1)
 
-    pub no_reach_below : None ≡ marks_of (whos_of users) (chain_to way block) → None ≡ marks_of (whos_of users) (folders_to block way)
+    pub no_reach_below : None ≡ marks_of users (chain_to way block) → None ≡ marks_of users (folders_to block way)
     no_reach_below none = by (chain_to way block) none
       where
-        by : (known : Option (List File)) → None ≡ marks_of (whos_of users) known → None ≡ marks_of (whos_of users) (with_folder (folder_of block) known)
+        by : (known : Option (List FileValue)) → None ≡ marks_of users known → None ≡ marks_of users (with_folder (folder_of block) known)
         by (Some above) none = cc
-        by None none = sym (ap (marks_of (whos_of users)) (none_with (folder_of block)))
+        by None none = sym (ap (marks_of users) (none_with (folder_of block)))
 
 -- ---- the next block
 

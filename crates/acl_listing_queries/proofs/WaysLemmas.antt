@@ -5,9 +5,9 @@ use Rattle.std.specs.List.{filter, list_all, list_any}
 use Rattle.std.proofs.lemmas.Bool.{or_parts}
 use Rattle.std.proofs.lemmas.List.{reverse-append}
 use Rattle.acl_access.specs.Reach.{reaches}
+use Rattle.acl_listings.specs.Block.{FileValue}
 use Rattle.acl_listings.specs.Way.{is_above, is_folder_of}
 use Rattle.acl_listings.proofs.WayLemmas.{is_above-trans}
-use Rattle.acl_bridge.specs.Files.{File}
 use Rattle.acl_listing_queries.specs.Readings.{Reading}
 use Rattle.acl_listing_queries.specs.Ways.{holds, chain_to, may_be_above, those_above}
 use Rattle.acl_listing_queries.specs.WhoSteps.{AreFolders, IsChain, folders_to, lacks_path, level_of, levels, marks_of, question_by, shown_folder, standings_for, whos_of}
@@ -53,8 +53,8 @@ module _ (users : Users) where
     pub above : List Reading
     pub way_is : way ≡ nearest ∷ above
     pub path : nearest.path ≡ Some top.path.items
-    pub reach : marks_of (whos_of users) (folders_to nearest above) ≡ option_map (λ marks. marks.items) top.reach
-    pub standings : standings_for (question_by users) (whos_of users) nearest.file ≡ top.standings.items
+    pub reach : marks_of users (folders_to nearest above) ≡ option_map (λ marks. marks.items) top.reach
+    pub standings : standings_for users.rules (question_by users) (whos_of users) nearest.file ≡ top.standings.items
     pub others : AreFolders users front above
 
   top_of : (front : List Folder) (top : Folder) (way : List Reading) → shown_folder top ∷ map shown_folder (reverse front) ≡ levels users way → IsOnTop front top way
@@ -86,7 +86,7 @@ module _ (users : Users) where
 
   -- one more folder
   pub one_folder_more : (folders : List Folder) (top : Folder) (folder : Reading) (way : List Reading) → AreFolders users folders way → folder.path ≡ Some top.path.items
-      → option_map (λ marks. marks.items) top.reach ≡ marks_of (whos_of users) (folders_to folder way) → top.standings.items ≡ standings_for (question_by users) (whos_of users) folder.file
+      → option_map (λ marks. marks.items) top.reach ≡ marks_of users (folders_to folder way) → top.standings.items ≡ standings_for users.rules (question_by users) (whos_of users) folder.file
       → AreFolders users (folders ++ top ∷ []) (folder ∷ way)
   one_folder_more folders top folder way are path reach standings =
       ap (map shown_folder) (reverse-append folders (top ∷ []))
@@ -182,15 +182,15 @@ module _ (users : Users) (folders : List Folder) (here : Reading) (path : List �
 
     -- who reaches what it holds
     pub reached_through : (b : Bool) → is_folder_of top.path.items path ≡ b → (way : List Reading) → AreFolders users folders way
-        → marks_of (whos_of users) (chain_to way here) ≡ cond b (option_map (λ marks. marks.items) top.reach) None
+        → marks_of users (chain_to way here) ≡ cond b (option_map (λ marks. marks.items) top.reach) None
     reached_through b holds_it way are =
         let on : IsOnTop users front top way = on_top users folders front top way whole are in
         let nearest : Reading = on.nearest in
         let holds_is : holds nearest.path here.path ≡ b = ap (λ found. holds found here.path) on.path ∙ ap (holds (Some top.path.items)) is ∙ holds_it in
-        ap (λ way. marks_of (whos_of users) (chain_to way here)) on.way_is ∙ ap (λ b. marks_of (whos_of users) (cond b (folders_to nearest on.above) None)) holds_is ∙ by b (folders_to nearest on.above) on.reach
+        ap (λ way. marks_of users (chain_to way here)) on.way_is ∙ ap (λ b. marks_of users (cond b (folders_to nearest on.above) None)) holds_is ∙ by b (folders_to nearest on.above) on.reach
       where
-        by : (b : Bool) (known : Option (List File)) → marks_of (whos_of users) known ≡ option_map (λ marks. marks.items) top.reach
-            → marks_of (whos_of users) (cond b known None) ≡ cond b (option_map (λ marks. marks.items) top.reach) None
+        by : (b : Bool) (known : Option (List FileValue)) → marks_of users known ≡ option_map (λ marks. marks.items) top.reach
+            → marks_of users (cond b known None) ≡ cond b (option_map (λ marks. marks.items) top.reach) None
         by true known reach = reach
         by false known reach = refl
 
@@ -201,7 +201,7 @@ module _ (users : Users) (folders : List Folder) (here : Reading) (path : List �
         let empty : left ≡ [] = no_folders users left (subst (λ folders. AreFolders users folders left) (no_last folders none) are) in
         ap (those_above here) empty ∙ sym empty
 
-    pub reached_by_all : (way : List Reading) → AreFolders users folders way → marks_of (whos_of users) (chain_to way here) ≡ Some (map (reaches []) (whos_of users))
+    pub reached_by_all : (way : List Reading) → AreFolders users folders way → marks_of users (chain_to way here) ≡ Some (map (reaches []) (whos_of users))
     reached_by_all way are =
         let empty : way ≡ [] = no_folders users way (subst (λ folders. AreFolders users folders way) (no_last folders none) are) in
-        ap (λ way. marks_of (whos_of users) (chain_to way here)) empty
+        ap (λ way. marks_of users (chain_to way here)) empty

@@ -2,7 +2,7 @@
 use Rattle.std.proofs.Common.{◌≡◌, ◌∙◌, Bool, true, cond, List, None, Some, Ok, Err, Option, ap, reverse, subst, sym, ℕ}
 use Rattle.std.specs.List.{flat_map}
 use Rattle.acl_access.specs.Reach.{reaches}
-use Rattle.acl_reports.specs.Files.{file_of}
+use Rattle.acl_reports.specs.Files.{file_of, files_of}
 use Rattle.acl_listings.specs.Block.{FileValue, file_by, path_of}
 use Rattle.acl_listings.specs.Faults.{IsFaultOf}
 use Rattle.acl_listings.specs.declared.fault.FileFault.{FileFault}
@@ -23,7 +23,7 @@ module _ (asking : WhyAsking) (earlier : List Reading) (text : List ℕ) where
   way_here = way_of earlier here
 
   module _ (said : FileValue) (reads : file_by asking.names text ≡ Ok said) where
-    by_nodes : (files : Option (List File)) → known_way earlier here ≡ files → why_part asking earlier text ≡ why_by asking way_here (Ok said) files
+    by_nodes : (files : Option (List FileValue)) → known_way earlier here ≡ files → why_part asking earlier text ≡ why_by asking way_here (Ok said) files
     by_nodes files known = ap (λ said. why_by asking way_here said (known_way earlier here)) reads ∙ ap (why_by asking way_here (Ok said)) known
 
     -- one to which no way is known
@@ -32,16 +32,16 @@ module _ (asking : WhyAsking) (earlier : List Reading) (text : List ℕ) where
     part_unknown file.Memory unknown = tt
 
     -- and any other
-    pub part_known : (files : List File) → begins_apart earlier here ≡ true → chain_to way_here here ≡ Some files → why_part asking earlier text ≡ why_on asking way_here said (Some files)
+    pub part_known : (files : List FileValue) → begins_apart earlier here ≡ true → chain_to way_here here ≡ Some files → why_part asking earlier text ≡ why_on asking way_here said (Some files)
     part_known files apart known = by_nodes (Some files) (ap (λ b. cond b (chain_to way_here here) None) apart ∙ known)
 
     -- by what is reported of the folders, and by what decides about the file
-    pub part_sought : (files : List File) (reach : Bool) (folders : List ℕ) (acl : File) → begins_apart earlier here ≡ true → chain_to way_here here ≡ Some files → reach ≡ reaches files asking.who
-        → folders ≡ flat_map (folder_text asking.who) (reverse way_here) → acl ≡ file_of said
-        → why_part asking earlier text ≡ sought_part asking.sought asking.who reach folders (nearest way_here) (record { path = said.path; file = acl })
+    pub part_sought : (files : List FileValue) (reach : Bool) (folders : List ℕ) (acl : File) → begins_apart earlier here ≡ true → chain_to way_here here ≡ Some files → reach ≡ reaches (files_of asking.rules files) asking.who
+        → folders ≡ flat_map (folder_text asking.rules asking.who) (reverse way_here) → acl ≡ file_of asking.rules said
+        → why_part asking earlier text ≡ sought_part asking.rules asking.sought asking.who reach folders (nearest way_here) (record { path = said.path; file = acl })
     part_sought files reach folders acl apart known reach_is folders_is acl_is =
         part_known files apart known
-        ∙ sym (λ i. sought_part asking.sought asking.who (reach_is i) (folders_is i) (nearest way_here) (record { path = said.path; file = acl_is i }))
+        ∙ sym (λ i. sought_part asking.rules asking.sought asking.who (reach_is i) (folders_is i) (nearest way_here) (record { path = said.path; file = acl_is i }))
 
     -- the way to its path is kept
     pub way_to_it : (path : List ℕ) (way : Way) → path_of text ≡ Some path → IsWayTo asking.names path earlier way → IsWayTo asking.names said.path earlier way

@@ -8,7 +8,8 @@ use Rattle.std.proofs.Math.Seq.{take-suc}
 use Rattle.std.proofs.lemmas.List.{map-append, reverse-append, take-append-drop}
 use Rattle.std.proofs.lemmas.List.Elements.{filter-append}
 use Rattle.std.proofs.lemmas.List.Folds.{list_any-append}
-use Rattle.acl_listings.specs.Block.{path_of}
+use Rattle.acl_access.specs.declared.rules.Rules.{Rules}
+use Rattle.acl_listings.specs.Block.{FileValue, path_of}
 use Rattle.acl_listings.specs.Way.{is_above}
 use Rattle.acl_listings.specs.declared.fault.FileFault.{FileFault}
 use Rattle.acl_listings.specs.declared.fault.FileFault.TheVariants as file
@@ -22,7 +23,6 @@ use Rattle.acl_listing_queries.specs.WhoSteps.{lacks_path}
 use Rattle.acl_listing_queries.specs.WhySteps.{IsUnknown, IsWayTo, is_held, known_folders, readings_of}
 use Rattle.acl_listing_queries.specs.WhyText.{folder_text}
 use Rattle.acl_listing_queries.specs.declared.why.way.Way.{Way}
-use Rattle.acl_bridge.specs.Files.{File}
 
 -- ---- tests of lists
 
@@ -105,17 +105,17 @@ pub chain_to-held : (way : List Reading) (here : Reading) → chain_to way here 
 chain_to-held [] here = refl
 chain_to-held (folder ∷ above) here = refl
 
-pub known-more : (way : List Reading) (folder : Reading) (acl : File) (files : List File) → known_folders way ≡ Some files → is_held way folder.path ≡ true → folder_of folder ≡ Some acl
-    → known_folders (folder ∷ way) ≡ Some (acl ∷ files)
-known-more way folder acl files known held reads =
+pub known-more : (way : List Reading) (folder : Reading) (file : FileValue) (files : List FileValue) → known_folders way ≡ Some files → is_held way folder.path ≡ true → folder_of folder ≡ Some file
+    → known_folders (folder ∷ way) ≡ Some (file ∷ files)
+known-more way folder file files known held reads =
     ap (with_folder (folder_of folder)) (chain_to-held way folder ∙ ap (λ b. cond b (known_folders way) None) held ∙ known) ∙ ap (λ found. with_folder found (Some files)) reads
 
 -- what no folder is added to
-pub none_with : (found : Option File) → with_folder found None ≡ None
+pub none_with : (found : Option FileValue) → with_folder found None ≡ None
 none_with None = refl
 none_with (Some folder) = refl
 
-pub none_either : (b : Bool) (known : Option (List File)) → known ≡ None → cond b known None ≡ None
+pub none_either : (b : Bool) (known : Option (List FileValue)) → known ≡ None → cond b known None ≡ None
 none_either true known none = none
 none_either false known none = refl
 
@@ -133,11 +133,11 @@ way_unknown more way here unknown =
 -- ---- folders that are reported
 
 -- one folder more
-pub folders-more : (who : Identity) (way : List Reading) (next : Reading)
-    → flat_map (folder_text who) (reverse (next ∷ way)) ≡ flat_map (folder_text who) (reverse way) ++ folder_text who next
-folders-more who way next =
-    ap (flat_map (folder_text who)) (reverse-append (next ∷ []) way) ∙ flat_map-append (folder_text who) (reverse way) (next ∷ [])
-    ∙ ap (λ text. flat_map (folder_text who) (reverse way) ++ text) (append-nil (folder_text who next))
+pub folders-more : (rules : Rules) (who : Identity) (way : List Reading) (next : Reading)
+    → flat_map (folder_text rules who) (reverse (next ∷ way)) ≡ flat_map (folder_text rules who) (reverse way) ++ folder_text rules who next
+folders-more rules who way next =
+    ap (flat_map (folder_text rules who)) (reverse-append (next ∷ []) way) ∙ flat_map-append (folder_text rules who) (reverse way) (next ∷ [])
+    ∙ ap (λ text. flat_map (folder_text rules who) (reverse way) ++ text) (append-nil (folder_text rules who next))
 
 pub texts-more : (texts : List (Vec ℕ Global)) (place : ℕ) (text : Vec ℕ Global) → place < length texts → text ≡ get_or texts place text
     → take (place + 1) texts ≡ take place texts ++ text ∷ []

@@ -3,6 +3,7 @@ use Rattle.std.specs.Prelude.{◌≡◌, ◌++◌, ℕ, Bool, true, List, [], �
 use Rattle.std.specs.Prelude.{if◌then◌else◌}
 use Rattle.acl_access.specs.Paths.{printed_path}
 use Rattle.acl_access.specs.Who.{may_line}
+use Rattle.acl_access.specs.declared.rules.Rules.{Rules}
 use Rattle.acl_listings.specs.Block.{path_of}
 use Rattle.acl_listings.specs.declared.fault.BlockFault.TheVariants.{UnknownWay}
 use Rattle.acl_names.specs.Names.{Names}
@@ -23,15 +24,21 @@ Agree line (Err one) (Err other) = one ≡ other
 Agree line (Err fault) (Ok lines) = (fault ≡ UnknownWay) × (lines ≡ [])
 Agree line (Ok reasons) (Err fault) = ⊥
 
--- of each block of a path, and of each user
+-- of each block of a path, of each user, and by either rules
 abbrev pub DeletionsAgree : Type 0
-DeletionsAgree = (names : Names) (person : Person) (earlier : List (List ℕ)) (text path : List ℕ)
+DeletionsAgree = (names : Names) (rules : Rules) (person : Person)
+    (earlier : List (List ℕ)) (text path : List ℕ)
     → path_of text ≡ Some path
     → Agree (may_line (printed_path path) person.name)
-    (why.why_part (record { names = names; who = person.who; sought = why.Deletion })
-    (map (reading_of names) earlier) text)
+    (why.why_part (record {
+      names = names;
+      rules = rules;
+      who = person.who;
+      sought = why.Deletion;
+    }) (map (reading_of names) earlier) text)
     (who.who_part (record {
       names = names;
+      rules = rules;
       persons = person ∷ [];
       question = who.Deletion;
       reach = true;

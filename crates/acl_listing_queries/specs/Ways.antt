@@ -5,8 +5,6 @@ use Rattle.std.specs.List.{filter, flat_map, fold, list_all}
 use Rattle.acl_listings.specs.Block.{FileValue}
 use Rattle.acl_listings.specs.Way.{begin_alike, is_above, is_absolute, is_folder_of}
 use Rattle.acl_listings.specs.declared.fault.BlockFault.{BlockFault}
-use Rattle.acl_bridge.specs.Files.{File}
-use Rattle.acl_reports.specs.Files.{file_of}
 use Rattle.acl_reports.specs.Placed.{in_places}
 use Rattle.acl_listing_queries.specs.Readings.{Reading}
 
@@ -59,20 +57,20 @@ are_all_apart (one ∷ more) =
     list_all (λ other. are_apart one.path other.path) more && are_all_apart more
 
 -- the folder that a block says, if it reads
-abbrev pub folder_of : Reading → Option File
+abbrev pub folder_of : Reading → Option FileValue
 folder_of reading = by reading.file
   where
-    by : Result FileValue BlockFault → Option File
-    by (Ok file) = Some (file_of file)
+    by : Result FileValue BlockFault → Option FileValue
+    by (Ok file) = Some file
     by (Err fault) = None
 
 -- the nearest folder, and those above it, if they are known
-abbrev pub with_folder : Option File → Option (List File) → Option (List File)
+abbrev pub with_folder : Option FileValue → Option (List FileValue) → Option (List FileValue)
 with_folder (Some folder) (Some above) = Some (folder ∷ above)
 with_folder _ _ = None
 
 -- the folders of a way to a block, the nearest first, if each of them reads, and holds what is next
-abbrev pub chain_to : List Reading → Reading → Option (List File)
+abbrev pub chain_to : List Reading → Reading → Option (List FileValue)
 chain_to [] here = Some []
 chain_to (folder ∷ above) here = if holds folder.path here.path
     then with_folder (folder_of folder) (chain_to above folder) else None
@@ -83,7 +81,7 @@ begins_apart earlier here = are_all_apart (beginnings_of (earlier ++ here ∷ []
 
 -- The folders above a block, the nearest first, if they are known. If two ways have begun that
 -- aren't apart, a folder stands behind what is in it, so that folders of any way may be missing.
-abbrev pub known_way : List Reading → Reading → Option (List File)
+abbrev pub known_way : List Reading → Reading → Option (List FileValue)
 known_way earlier here =
     if begins_apart earlier here then chain_to (way_of earlier here) here else None
 

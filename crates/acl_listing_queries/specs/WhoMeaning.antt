@@ -14,6 +14,7 @@ use Rattle.acl_people.specs.HostFailures.{IsHostFailure}
 use Rattle.acl_reports.specs.Listed.{AnswersNaming, BeginsNaming, Part}
 use Rattle.acl_reports.specs.ListingMeaning.{FailsForListing, bytes_named, inputs_of}
 use Rattle.acl_reports.specs.ListingMeaning.{listing_in}
+use Rattle.acl_reports.specs.RulesMeaning.{rules_in}
 use Rattle.acl_reports.specs.Strangers.{stranger_in}
 use Rattle.acl_reports.specs.declared.stranger.Stranger.{Stranger}
 use Rattle.acl_people.specs.People.{IsAskedFailure, asked_in}
@@ -70,6 +71,7 @@ pub record WhoAnswers (Is : Text → Names → (List (List ℕ) → List ℕ →
   pub is : Is (listing_in rows) (names_of_host host)
       (who_part (record {
         names = names_of_host host;
+        rules = rules_in rows;
         persons = persons;
         question = question;
         reach = reach_in rows;

@@ -6,8 +6,9 @@ use Rattle.acl_listings.specs.Block.{FileValue}
 use Rattle.acl_listings.specs.declared.fault.BlockFault.{BlockFault}
 use Rattle.acl_listings.specs.declared.fault.BlockFault.TheVariants.{UnknownWay}
 use Rattle.acl_access.specs.Paths.{printed_path}
+use Rattle.acl_access.specs.declared.rules.Rules.{Rules}
 use Rattle.acl_bridge.specs.Files.{File}
-use Rattle.acl_reports.specs.Files.{file_of}
+use Rattle.acl_reports.specs.Files.{file_of, files_of}
 use Rattle.acl_reports.specs.Listed.{Part}
 use Rattle.acl_people.specs.Person.{Person}
 use Rattle.acl_listing_queries.specs.Readings.{Reading, reading_of}
@@ -22,18 +23,20 @@ pub data Question : Type 0 where
   Via : Asked → Question
   Deletion : Question
 
--- by which names blocks are read, who is asked about, what is asked, and whether only those count
--- who may search each folder above
+-- by which names blocks are read, by which rules lists are evaluated, who is asked about, what is
+-- asked, and whether only those count who may search each folder above
 pub record Asking : Type 0 where
   pub names : Names
+  pub rules : Rules
   pub persons : List Person
   pub question : Question
   pub reach : Bool
 
 -- the letters r, w and x of these people by reach, as numbers
-abbrev pub letters_asked : Names → List Person → Asking
-letters_asked names persons = record {
+abbrev pub letters_asked : Rules → Names → List Person → Asking
+letters_asked rules names persons = record {
   names = names;
+  rules = rules;
   persons = persons;
   question = What Numbers;
   reach = true;
@@ -49,18 +52,20 @@ part_of persons Deletion sticky (folder ∷ above) path file =
     Ok (deletion_text persons sticky folder above path file)
 
 -- if the way is known
-abbrev pub part_on : Asking → Bool → FileValue → Option (List File) → Part
+abbrev pub part_on : Asking → Bool → FileValue → Option (List FileValue) → Part
 part_on asking sticky file (Some way) =
-    part_of asking.persons asking.question sticky way (printed_path file.path) (file_of file)
+    part_of asking.persons asking.question sticky (files_of asking.rules way)
+    (printed_path file.path) (file_of asking.rules file)
 part_on asking sticky file None = Err UnknownWay
 
 -- of a block that says this
-abbrev pub part_by : Asking → Bool → Result FileValue BlockFault → Option (List File) → Part
+abbrev pub part_by : Asking → Bool → Result FileValue BlockFault → Option (List FileValue)
+    → Part
 part_by asking sticky (Ok file) way = part_on asking sticky file way
 part_by asking sticky (Err fault) way = Err fault
 
 -- the way that counts to a block behind these
-abbrev pub way_for : Bool → List Reading → Reading → Option (List File)
+abbrev pub way_for : Bool → List Reading → Reading → Option (List FileValue)
 way_for false earlier here = Some []
 way_for true earlier here = known_way earlier here
 

@@ -11,6 +11,7 @@ use Rattle.acl_access.specs.Marks.{is_set, letters_at, places_from}
 use Rattle.acl_access.specs.Reach.{reaches}
 use Rattle.acl_access.specs.Standings.{standing_of}
 use Rattle.acl_access.specs.Who.{may_line}
+use Rattle.acl_access.specs.declared.rules.Rules.{Rules}
 use Rattle.acl_access.specs.declared.standing.Standing.{Standing}
 use Rattle.acl_listings.specs.Block.{FileValue, file_by}
 use Rattle.acl_listings.specs.Lines.{after_line}
@@ -20,7 +21,7 @@ use Rattle.acl_posix.specs.Perms.{bits_of}
 use Rattle.acl_posix.specs.declared.perms.Perms.{Perms}
 use Rattle.acl_bridge.specs.Files.{File, may}
 use Rattle.acl_people.specs.Asked.{names_of_people, persons_of}
-use Rattle.acl_reports.specs.Files.{file_of}
+use Rattle.acl_reports.specs.Files.{file_of, files_of}
 use Rattle.acl_reports.specs.Strangers.{file_stranger, stranger_in}
 use Rattle.acl_reports.specs.declared.stranger.Stranger.{Stranger}
 use Rattle.acl_people.specs.Host.{names_of_host}
@@ -68,6 +69,7 @@ question_by users = question_of users.asked
 abbrev pub asking_of : Users → Asking
 asking_of users = record {
   names = names_by users;
+  rules = users.rules;
   persons = persons_of (names_of_people users.people.now) (whos_of users);
   question = question_by users;
   reach = users.reach;
@@ -149,9 +151,9 @@ IsSearch whos false file marks = ⊤
 IsSearch whos true file marks = marks ≡ map (λ who. may file who 1) whos
 
 pub record AreAnswersOf (users : Users) (file : FileValue) (kept : Kept) : Type 0 where
-  pub granted : IsAnswered (whos_of users) (question_by users) file.flags.sticky (file_of file)
-      kept.granted
-  pub search : IsSearch (whos_of users) users.reach (file_of file) kept.search.items
+  pub granted : IsAnswered (whos_of users) (question_by users) file.flags.sticky
+      (file_of users.rules file) kept.granted
+  pub search : IsSearch (whos_of users) users.reach (file_of users.rules file) kept.search.items
 
 -- the answers are those of the file of a block with these lines behind its first
 pub record IsKept (users : Users) (kept : Kept) : Type 0 where
@@ -181,12 +183,13 @@ pub record IsAnsweredAt (answers : Answers) (place : ℕ) (file : FileValue) : T
 
 -- ---- the way
 
-abbrev pub folders_to : Reading → List Reading → Option (List File)
+abbrev pub folders_to : Reading → List Reading → Option (List FileValue)
 folders_to folder above = with_folder (folder_of folder) (chain_to above folder)
 
--- of each of these whether each folder of a known way may be searched
-abbrev pub marks_of : List Identity → Option (List File) → Option (List Bool)
-marks_of who way = option_map (λ way. map (reaches way) who) way
+-- of each user whether each folder of a known way may be searched
+abbrev pub marks_of : Users → Option (List FileValue) → Option (List Bool)
+marks_of users way =
+    option_map (λ way. map (reaches (files_of users.rules way)) (whos_of users)) way
 
 -- how users stand to a file, as far as it is kept
 abbrev pub standings_kept : Granted → List Standing
@@ -194,11 +197,13 @@ standings_kept (Standings standings) = standings.items
 standings_kept granted = []
 
 -- if that is asked, how each of these stands to a folder of which this is said
-abbrev pub standings_for : Question → List Identity → Result FileValue BlockFault → List Standing
-standings_for (What asked) who said = []
-standings_for (Via asked) who said = []
-standings_for Deletion who (Ok file) = map (standing_of file.flags.sticky (file_of file)) who
-standings_for Deletion who (Err fault) = []
+abbrev pub standings_for : Rules → Question → List Identity → Result FileValue BlockFault
+    → List Standing
+standings_for rules (What asked) who said = []
+standings_for rules (Via asked) who said = []
+standings_for rules Deletion who (Ok file) =
+    map (standing_of file.flags.sticky (file_of rules file)) who
+standings_for rules Deletion who (Err fault) = []
 
 -- what is kept of a folder: its path, who reaches what is in it, and how users stand to it
 abbrev pub Level : Type 0
@@ -207,8 +212,8 @@ Level = Option (List ℕ) × Option (List Bool) × List Standing
 abbrev pub level_of : Users → Reading → List Reading → Level
 level_of users folder above = (
   folder.path,
-  marks_of (whos_of users) (folders_to folder above),
-  standings_for (question_by users) (whos_of users) folder.file,
+  marks_of users (folders_to folder above),
+  standings_for users.rules (question_by users) (whos_of users) folder.file,
 )
 
 -- of a way's folders, the nearest first
@@ -242,10 +247,10 @@ pub record IsInside (users : Users) (sticky : Bool) (way : List File) (inside : 
         (option_map (λ standings. standings.now) inside.folder)
 
 -- if it is known
-abbrev pub IsInsideOf : Users → Bool → Option (List File) → Option Inside → Type 0
+abbrev pub IsInsideOf : Users → Bool → Option (List FileValue) → Option Inside → Type 0
 IsInsideOf users sticky way None = way ≡ None
-IsInsideOf users sticky way (Some inside) =
-    (above : List File) × (way ≡ Some above) × IsInside users sticky above inside
+IsInsideOf users sticky way (Some inside) = (above : List FileValue) × (way ≡ Some above)
+    × IsInside users sticky (files_of users.rules above) inside
 
 abbrev pub lacks_path : Reading → Bool
 lacks_path reading = is_none reading.path

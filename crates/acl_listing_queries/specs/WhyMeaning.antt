@@ -26,6 +26,7 @@ use Rattle.acl_reports.specs.Paths.{has_path, is_among}
 use Rattle.acl_people.specs.People.{person_in}
 use Rattle.acl_people.specs.Person.{Person}
 use Rattle.acl_reports.specs.Placed.{Placed}
+use Rattle.acl_reports.specs.RulesMeaning.{rules_in}
 use Rattle.acl_reports.specs.ListingMeaning.{FailsForListing, bytes_named, inputs_of}
 use Rattle.acl_reports.specs.ListingMeaning.{listing_in}
 use Rattle.acl_listing_queries.specs.PathWord.{as_listed}
@@ -123,8 +124,12 @@ pub record WhyAnswers (bytes_of : Text → Option (List ℕ)) (input : Option (L
   pub sought : Sought
   pub sought_is : sought_in rows ≡ Ok sought
   pub is : AnswersPath
-      (record { names = names_of_host host; who = person.who; sought = sought }) (listing_in rows)
-      (path_in rows) (blocks_named bytes_of input (listing_in rows)) answer
+      (record {
+        names = names_of_host host;
+        rules = rules_in rows;
+        who = person.who;
+        sought = sought;
+      }) (listing_in rows) (path_in rows) (blocks_named bytes_of input (listing_in rows)) answer
 
 -- the words ask for both or for neither, or the permissions are malformed
 abbrev pub FailsToSeek : List Row → Failure → Type 0

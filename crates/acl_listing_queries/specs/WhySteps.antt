@@ -5,15 +5,16 @@ use Rattle.std.specs.List.{flat_map, list_any}
 use Rattle.std.specs.declared.alloc.Global.{Global}
 use Rattle.std.specs.Borrow.{Bor}
 use Rattle.acl_access.specs.Reach.{reaches}
-use Rattle.acl_listings.specs.Block.{file_by, path_of}
+use Rattle.acl_listings.specs.Block.{FileValue, file_by, path_of}
 use Rattle.acl_listings.specs.Listing.{Block}
 use Rattle.acl_listings.specs.declared.fault.BlockFault.TheVariants.{UnknownWay}
 use Rattle.acl_listings.specs.declared.fault.FileFault.{FileFault}
 use Rattle.acl_listings.specs.declared.fault.FileFault.TheVariants as file
 use Rattle.acl_names.specs.Names.{Names}
 use Rattle.acl_posix.specs.Perms.{bits_of}
-use Rattle.acl_bridge.specs.Files.{File, view_acl}
+use Rattle.acl_bridge.specs.Files.{view_acl}
 use Rattle.acl_people.specs.Host.{names_of_host}
+use Rattle.acl_reports.specs.Files.{files_of}
 use Rattle.acl_reports.specs.Paths.{is_among}
 use Rattle.acl_reports.specs.Seen.{Splits}
 use Rattle.acl_listing_queries.specs.Readings.{Reading, reading_of}
@@ -40,6 +41,7 @@ sought_by asked.Deletion = Deletion
 abbrev pub asked_by : Question → WhyAsking
 asked_by question = record {
   names = names_of_host question.host.now;
+  rules = question.rules;
   who = question.requester.now;
   sought = sought_by question.sought;
 }
@@ -57,7 +59,7 @@ pub record IsWayTo (names : Names) (path : List ℕ) (earlier : List Reading) (w
     pub begun : way.lost ≡ false → IsBegun way.beginning earlier
 
 -- the folders of a way, the nearest first, if they are known
-abbrev pub known_folders : List Reading → Option (List File)
+abbrev pub known_folders : List Reading → Option (List FileValue)
 known_folders [] = Some []
 known_folders (folder ∷ above) = with_folder (folder_of folder) (chain_to above folder)
 
@@ -75,20 +77,20 @@ IsNearest names _ _ = ⊥
 
 -- the folders of this way are reported
 pub record AreReported (asking : WhyAsking) (way : List Reading) (folders : Folders) : Type 0 where
-  pub files : List File
+  pub files : List FileValue
   pub known : known_folders way ≡ Some files
-  pub reach : folders.reach ≡ reaches files asking.who
-  pub text : folders.text.items ≡ flat_map (folder_text asking.who) (reverse way)
+  pub reach : folders.reach ≡ reaches (files_of asking.rules files) asking.who
+  pub text : folders.text.items ≡ flat_map (folder_text asking.rules asking.who) (reverse way)
   pub last : IsNearest asking.names folders.last way
 
 -- and they are all those on the way to a block
 pub record IsWayReported (asking : WhyAsking) (way : List Reading) (here : Reading)
     (folders : Folders)
     : Type 0 where
-  pub files : List File
+  pub files : List FileValue
   pub known : chain_to way here ≡ Some files
-  pub reach : folders.reach ≡ reaches files asking.who
-  pub text : folders.text.items ≡ flat_map (folder_text asking.who) (reverse way)
+  pub reach : folders.reach ≡ reaches (files_of asking.rules files) asking.who
+  pub text : folders.text.items ≡ flat_map (folder_text asking.rules asking.who) (reverse way)
   pub last : IsNearest asking.names folders.last way
 
 -- they aren't known; out of memory says nothing

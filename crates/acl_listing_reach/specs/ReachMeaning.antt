@@ -1,6 +1,7 @@
 -- What the fields of `impact --reach` mean, of two listings.
 use Rattle.std.specs.Prelude.{◌≡◌, ◌⊎◌, ◌+◌, ℕ, List, Option, Some, None, Ok, codes}
 use Rattle.clap.specs.Words.{Row, Text, first_of}
+use Rattle.acl_access.specs.declared.rules.Rules.{Rules}
 use Rattle.acl_cli.specs.Commands.{Answer, Meaning}
 use Rattle.acl_cli.specs.Fields.{flag_in}
 use Rattle.acl_cli.specs.declared.failure.Failure.{Failure}
@@ -9,6 +10,7 @@ use Rattle.acl_people.specs.Elsewhere.{IsOtherHost, IsOtherHostFailure, asked_el
 use Rattle.acl_people.specs.People.{IsAskedFailure, asked_in}
 use Rattle.acl_people.specs.Person.{Person}
 use Rattle.acl_reports.specs.ListingMeaning.{inputs_of}
+use Rattle.acl_reports.specs.RulesMeaning.{rules_in}
 use Rattle.acl_listing_queries.specs.WhoPart.{letters_asked, who_part}
 use Rattle.acl_listing_changes.specs.ChangeMeaning.{after_in, before_in}
 use Rattle.acl_listing_changes.specs.ImpactMeaning.{FailsForImpact, concern_in}
@@ -23,11 +25,13 @@ reach_asked persons rows = record {
   asks = flag_in (codes "exit-code") rows;
 }
 
--- the listing of a name, as these people by these accounts are reported to reach what is in it
-abbrev pub reach_source : (Text → Option (List ℕ)) → Option (List ℕ) → Host → List Person → Text
-    → Source
-reach_source bytes_of input host persons name = source_named bytes_of input (names_of_host host)
-    (who_part (letters_asked (names_of_host host) persons)) name
+-- the listing of a name, as these people by these accounts are reported to reach what is in it,
+-- where these rules evaluate lists
+abbrev pub reach_source : (Text → Option (List ℕ)) → Option (List ℕ) → Rules → Host → List Person
+    → Text → Source
+reach_source bytes_of input rules host persons name =
+    source_named bytes_of input (names_of_host host)
+    (who_part (letters_asked rules (names_of_host host) persons)) name
 
 -- who is asked about after, and by which accounts: the same by those of the file that the words
 -- name, and if they name none the same by the same
@@ -53,8 +57,8 @@ pub record ReachAnswers (Is : ReachAsking → Side → Side → Answer → Type 
   pub others : List Person
   pub after : AreAskedAfter bytes_of rows host persons other others
   pub is : OfSources (Is (reach_asked persons rows))
-      (reach_source bytes_of input host persons (before_in rows))
-      (reach_source bytes_of input other others (after_in rows)) answer
+      (reach_source bytes_of input (rules_in rows) host persons (before_in rows))
+      (reach_source bytes_of input (rules_in rows) other others (after_in rows)) answer
 
 -- the file of the accounts after can't be read as accounts, or the users are refused
 pub record AsksNobodyAfter (bytes_of : Text → Option (List ℕ)) (rows : List Row) (name : Text)

@@ -21,7 +21,8 @@ use acl_listing_changes::{
 use acl_listing_queries::letters_by_reach;
 use acl_people::options::{ACCOUNTS, DOMAIN, USERS};
 use acl_people::{Host, People, people_elsewhere, read_host, read_other_host, read_people};
-use acl_reports::options::{AFTER, BEFORE};
+use acl_reports::options::{AFTER, BEFORE, DRAFT};
+use acl_reports::rules_field;
 use clap::ArgMatches;
 use std::alloc::Global;
 use std::io::{Read, Write};
@@ -57,7 +58,7 @@ while it is read, or the answer can't be written; 4 if some blocks can't be
 evaluated, or a listing has none; 5 with --exit-code, if there is a line.";
 
 /// Reports who gains or loses access between two listings: `impact [--accounts FILE]
-/// [--accounts-after FILE] [--domain DOMAIN] [--reach] [--all] [--user NAME].. [--text]
+/// [--accounts-after FILE] [--domain DOMAIN] [--reach] [--draft] [--all] [--user NAME].. [--text]
 /// [--exit-code] BEFORE AFTER`.
 ///
 /// It keeps BEFORE in memory, and reads AFTER in pieces; one of them may be `-`, for `input`. With
@@ -73,7 +74,7 @@ evaluated, or a listing has none; 5 with --exit-code, if there is a line.";
 pub struct Impact;
 
 /// The words of the line, in the order of help.
-const WORDS: [Word<'static>; 10] = [
+const WORDS: [Word<'static>; 11] = [
     ACCOUNTS,
     Word {
         given: Given::Option,
@@ -88,6 +89,7 @@ const WORDS: [Word<'static>; 10] = [
         value: "",
         help: "Counts access only if the user may also search each parent folder in the listing",
     },
+    DRAFT,
     Word {
         given: Given::Flag,
         name: "all",
@@ -164,15 +166,16 @@ fn report_sides<'a, F: OpenFiles, I: Read, W: Write, E: Write + Drop>(
         each: each_has_a_line(matches),
         asks: flag_field(matches, "exit-code"),
     };
+    let rules = rules_field(matches);
     let first = Asked {
         name: before_field(matches),
         host: earlier.host,
-        reporter: letters_by_reach(alloc, earlier.host, earlier.people)?,
+        reporter: letters_by_reach(alloc, earlier.host, earlier.people, rules)?,
     };
     let second = Asked {
         name: after_field(matches),
         host: later.host,
-        reporter: letters_by_reach(alloc, later.host, later.people)?,
+        reporter: letters_by_reach(alloc, later.host, later.people, rules)?,
     };
     report_between(alloc, asking, files, first, second, input, out, err)
 }

@@ -10,6 +10,7 @@ use Rattle.acl_posix.proofs.ValidityLemmas.{IsValid-from_fault_of}
 use Rattle.acl_bridge.specs.Files.{File, file_with}
 use Rattle.acl_access.specs.Changes.{IsAlikeToAll}
 use Rattle.acl_access.specs.Paths.{printed_path}
+use Rattle.acl_access.specs.declared.rules.Rules.TheVariants.{Linux}
 use Rattle.acl_listings.specs.Block.{FileValue, file_by}
 use Rattle.acl_listings.specs.declared.fault.BlockFault.{BlockFault}
 use Rattle.acl_listings.specs.declared.file_flags.FileFlags.{FileFlags}
@@ -43,7 +44,7 @@ linux_valid acl valid = go (has_empty_mask acl)
 
 -- a file with these lists, as what decides about access to it
 abbrev deciding : ℕ → ℕ → Lists → File
-deciding owner group lists = file_with (record { owner = owner; group = group }) (deciding_list lists)
+deciding owner group lists = file_with (record { owner = owner; group = group }) (deciding_list Linux lists)
 
 lists_alike : (attributes : Bool) (owner group : ℕ) (lists : Lists) → HasValidAccess lists
     → IsAlikeToAll (deciding owner group lists) (deciding owner group (Nfs4 (aces_of attributes lists)))
@@ -54,11 +55,11 @@ lists_alike attributes owner group (Posix access default) valid requester = reco
 lists_alike attributes owner group (Nfs4 acl) valid requester = alike_itself (deciding owner group (Nfs4 acl)) requester
 
 module _ (names : Names) (attributes : Bool) (text : List ℕ) (file : FileValue) (reads : file_by names text ≡ Ok file) where
-  pub reported_alike : IsAlikeToAll (file_of file) (file_of (with_reported attributes file))
+  pub reported_alike : IsAlikeToAll (file_of Linux file) (file_of Linux (with_reported attributes file))
   reported_alike = lists_alike attributes file.owner file.group file.lists (file_valid names text file reads)
 
-  pub reported_nothing : ReportsNothing (file_of file) (file_of (with_reported attributes file))
-  reported_nothing concern path text = reports_nothing (file_of file) (file_of (with_reported attributes file)) path reported_alike concern text
+  pub reported_nothing : ReportsNothing (file_of Linux file) (file_of Linux (with_reported attributes file))
+  reported_nothing concern path text = reports_nothing (file_of Linux file) (file_of Linux (with_reported attributes file)) path reported_alike concern text
 
 -- ---- what is written otherwise
 
@@ -95,16 +96,16 @@ module _ (attributes : Bool) (path : List ℕ) (owner group : ℕ) (flags : File
 -- ---- blocks
 
 -- what is reported for two files that are decided about alike, unless what is written otherwise is asked
-module _ (asking : ImpactAsking) (unasked : asking.written ≡ false) (before after : FileValue) (alike : IsAlikeToAll (file_of before) (file_of after))
+module _ (asking : ImpactAsking) (unasked : asking.written ≡ false) (before after : FileValue) (alike : IsAlikeToAll (file_of asking.rules before) (file_of asking.rules after))
     (nothing : ReportsWritten false before after []) where
   change_nothing : (reported : List ℕ) → ReportsChange asking before after reported ↔ (reported ≡ [])
   change_nothing reported = (
     λ reports. reports.text_is
-        ∙ ap₂ (λ (a b : List ℕ). a ++ b) ((reports_nothing (file_of before) (file_of after) (printed_path after.path) alike asking.concern reports.impact).0 reports.impact_is)
+        ∙ ap₂ (λ (a b : List ℕ). a ++ b) ((reports_nothing (file_of asking.rules before) (file_of asking.rules after) (printed_path after.path) alike asking.concern reports.impact).0 reports.impact_is)
         (reports.written_is.2 ∙ ap (λ asked. changed_text asked reports.written_is.0 (printed_path after.path)) unasked),
     λ none. subst (ReportsChange asking before after) (sym none) (record {
       impact = [];
-      impact_is = nobody (file_of before) (file_of after) (printed_path after.path) alike asking.concern;
+      impact_is = nobody (file_of asking.rules before) (file_of asking.rules after) (printed_path after.path) alike asking.concern;
       written = [];
       written_is = subst (λ (asked : Bool). ReportsWritten asked before after []) (sym unasked) nothing;
       text_is = refl;
@@ -124,12 +125,13 @@ module _ (P : FileValue → FileValue → Type 0) (before after : FileValue) whe
 
 blocks_nothing : (names : Names) (attributes : Bool) (old text : List ℕ) (file : FileValue) → file_by names old ≡ Ok file → file_by names text ≡ Ok (with_reported attributes file)
     → ReportsNothingOf names old text
-blocks_nothing names attributes old text file reads again asking same unasked reported said =
+blocks_nothing names attributes old text file reads again asking same linux unasked reported said =
     let after = with_reported attributes file in
     let first : file_by asking.names old ≡ Ok file = ap (λ names. file_by names old) same ∙ reads in
     let second : file_by asking.names text ≡ Ok after = ap (λ names. file_by names text) same ∙ again in
     let both = of_both (λ before after. ReportsChange asking before after reported × (said ≡ [])) file after (file_by asking.names old) (file_by asking.names text) first second in
-    let nothing = change_nothing asking unasked file after (reported_alike names attributes old file reads)
+    let alike = subst (λ rules. IsAlikeToAll (file_of rules file) (file_of rules after)) (sym linux) (reported_alike names attributes old file reads) in
+    let nothing = change_nothing asking unasked file after alike
     (unwritten attributes file.path file.owner file.group file.flags file.lists) reported in (
       λ reports. let here = both.0 reports in (nothing.0 here.0, here.1),
       λ none. both.1 (nothing.1 none.0, none.1),

@@ -1,5 +1,6 @@
 -- Laws of `translate`: about a file, what is printed for it, and what `impact` prints for the two.
 use Rattle.std.specs.Prelude.{◌≡◌, ◌<◌, ◌↔◌, ℕ, Bool, false, List, [], Ok, length}
+use Rattle.acl_access.specs.declared.rules.Rules.TheVariants.{Linux}
 use Rattle.acl_names.specs.Names.{Names}
 use Rattle.acl_nfs4.specs.Acl.{AreAces}
 use Rattle.acl_nfs4.specs.PrintedText.{HaveIds}
@@ -36,9 +37,9 @@ ReportsNothing before after =
     (concern : Concern) (path text : List ℕ)
     → ReportsImpact concern before after path text ↔ (text ≡ [])
 
--- Nor does it for a block that became another, unless `--text` is given.
+-- Nor does it for a block that became another, unless `--text` or `--draft` is given.
 abbrev pub ReportsNothingOf : Names → List ℕ → List ℕ → Type 0
 ReportsNothingOf names old text =
-    (asking : ImpactAsking) → asking.names ≡ names → asking.written ≡ false
-    → (reported said : List ℕ)
+    (asking : ImpactAsking) → asking.names ≡ names → asking.rules ≡ Linux
+    → asking.written ≡ false → (reported said : List ℕ)
     → (impacting asking).IsChanged old text reported said ↔ ((reported ≡ []) × (said ≡ []))

@@ -7,6 +7,7 @@ ghost use Rattle.acl_posix.specs.Linux.{linux_list};
 ghost use Rattle.acl_posix.specs.Validity.{IsValid};
 ghost use Rattle.acl_bridge.specs.TranslationLaws.{DecideAlike};
 ghost use Rattle.acl_access.specs.Changes.{IsAlikeToAll};
+ghost use Rattle.acl_access.specs.declared.rules.Rules.TheVariants.{Linux};
 ghost use Rattle.acl_listings.specs.Block.{FileValue, file_by};
 ghost use Rattle.acl_listings.specs.declared.lists.Lists.TheVariants.{Posix};
 ghost use Rattle.acl_reports.specs.Files.{file_of};
@@ -40,14 +41,14 @@ pub fn translations_decide_alike()
 
 /// A file and its translation grant everybody the same, in each bit that is compared. So `impact`
 /// prints nothing about the two files, whatever users are evaluated; nor about the two blocks,
-/// unless `--text` is given. There is nothing to run here: a proof cites the contract.
+/// unless `--text` or `--draft` is given. There is nothing to run here: a proof cites the contract.
 pub fn translations_change_nothing()
     ensures alike { (names : Names) (attributes : Bool) (text : List ℕ) (file : FileValue)
         → file_by names text ≡ Ok file
-        → IsAlikeToAll (file_of file) (file_of (with_reported attributes file)) }
+        → IsAlikeToAll (file_of Linux file) (file_of Linux (with_reported attributes file)) }
     ensures files { (names : Names) (attributes : Bool) (text : List ℕ) (file : FileValue)
         → file_by names text ≡ Ok file
-        → ReportsNothing (file_of file) (file_of (with_reported attributes file)) }
+        → ReportsNothing (file_of Linux file) (file_of Linux (with_reported attributes file)) }
     ensures blocks { (host : HostValue) (form : FormValue)
         (attributes : Bool)
         (text reported : List ℕ) (file : FileValue)

@@ -4,6 +4,7 @@ pub mod Listed
 pub mod Reporting
 pub mod Seen
 pub mod ListingMeaning
+pub mod RulesMeaning
 pub mod Paths
 pub mod Placed
 pub mod ClosingLaws

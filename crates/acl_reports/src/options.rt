@@ -1,4 +1,4 @@
-//! The words that name listings.
+//! The words that commands of listings share.
 
 use acl_cli::{Given, Word};
 
@@ -8,6 +8,14 @@ pub const LISTING: Word<'static> = Word {
     name: "listing",
     value: "LISTING",
     help: "A file with what getfacl -R printed, or - for standard input",
+};
+
+/// The word `--draft`: POSIX lists are evaluated by draft 17 alone.
+pub const DRAFT: Word<'static> = Word {
+    given: Given::Flag,
+    name: "draft",
+    value: "",
+    help: "Evaluates POSIX lists by draft 17 alone, without Linux' rule of an empty mask",
 };
 
 /// The word BEFORE: the first of two listings.

@@ -16,7 +16,6 @@ use Rattle.std.proofs.lemmas.Slice.Eq.{bytes_eq-Decides}
 use Rattle.acl_names.specs.Pieces.{parts}
 use Rattle.acl_names.proofs.Keys.{same_name}
 use Rattle.acl_audit.proofs.PutLemmas.{found_each, found_in, truth, weaker}
-use Rattle.acl_bridge.specs.Files.{File}
 use Rattle.acl_listings.specs.Block.{FileValue}
 use Rattle.acl_listings.specs.Listing.{blocks_of}
 use Rattle.acl_listings.specs.Way.{is_above, is_folder_of, steps_of}
@@ -165,7 +164,7 @@ above_root root (entry ∷ entries) is at are =
 
 -- ---- the folders of a way
 
-with_known : (said : Result FileValue BlockFault) (path : Option (List ℕ)) (found : Option (List File)) → is_ok said ≡ true → IsSome found → IsSome (with_folder (folder_of (record { path = path; file = said })) found)
+with_known : (said : Result FileValue BlockFault) (path : Option (List ℕ)) (found : Option (List FileValue)) → is_ok said ≡ true → IsSome found → IsSome (with_folder (folder_of (record { path = path; file = said })) found)
 with_known (Ok file) path (Some files) said found = refl
 with_known (Ok file) path None said found = absurd (never found)
 with_known (Err fault) path found said known = absurd (never said)

@@ -6,6 +6,7 @@ pub mod StepOrderLemmas
 pub mod PreOrderLemmas
 pub mod ParentLemmas
 pub mod KnownWayLemmas
+pub mod DraftLemmas
 pub mod AccountsLemmas
 pub mod AccountsLawLemmas
 pub mod OpenedLemmas

@@ -11,3 +11,4 @@ pub mod AccountsLine
 pub mod AccountsText
 pub mod AccountsAnswer
 pub mod AccountsLaws
+pub mod DraftLaws

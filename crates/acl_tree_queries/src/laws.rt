@@ -1,5 +1,6 @@
 //! The laws of what is answered, over the definitions alone.
 ghost use Rattle.acl_tree_queries.specs.AccountsLaws.{UsersAskAlike};
+ghost use Rattle.acl_tree_queries.specs.DraftLaws.{DraftDecidesAsChecks};
 ghost use Rattle.acl_tree_queries.specs.DumpLaws.{DumpsMakeTheTreeAgain};
 ghost use Rattle.acl_tree_queries.specs.ListLaws.{ListsAreInPreOrder, ListsHaveKnownWays};
 
@@ -15,6 +16,14 @@ pub fn dump_laws()
 /// nobody's. There is nothing to run here: a proof cites the contract.
 pub fn accounts_laws()
     ensures asked { UsersAskAlike }
+{}
+
+/// Of each block that `list` prints and that reads, `who --draft --perms` prints a line of a user
+/// exactly if `check` in the tree grants that user the permissions at once; the user has the same
+/// uid and the same groups as in the tree's directory. There is nothing to run here: a proof cites
+/// the contract.
+pub fn draft_laws()
+    ensures checks { DraftDecidesAsChecks }
 {}
 
 /// What `list` prints of a tree that sessions leave on the one that a setup opens is in pre-order:

@@ -12,5 +12,5 @@ mod setup_tree;
 
 pub use accounts_command::Accounts;
 pub use dump_command::Dump;
-pub use laws::{accounts_laws, dump_laws, list_laws};
+pub use laws::{accounts_laws, draft_laws, dump_laws, list_laws};
 pub use list_command::List;

@@ -10,6 +10,7 @@ use crate::between::{after_field, before_field, is_input_twice, report_between};
 use acl_cli::fields::flag_field;
 use acl_cli::{Ending, ErrorOutput, Failure, Misuse, OpenFiles};
 use acl_people::{read_host, read_people, user_fields};
+use acl_reports::rules_field;
 use clap::ArgMatches;
 use std::alloc::Global;
 use std::io::{Read, Write};
@@ -54,6 +55,7 @@ pub fn report_impact<'a, F: OpenFiles, I: Read, W: Write, E: Write + Drop>(
     let reporter = ImpactReporter {
         host: &host,
         people: &people,
+        rules: rules_field(matches),
         each: each_has_a_line(matches),
         somebody: !names_users(matches),
         written: flag_field(matches, "text"),

@@ -14,7 +14,7 @@ use super::changed::{changed_between, push_changed};
 use super::concerned::Concerned;
 use crate::between::{ChangeReporter, Found, Known};
 use crate::impact_lines::push_apart;
-use acl_access::PrintedPath;
+use acl_access::{PrintedPath, Rules};
 use acl_bridge::FileAcl;
 use acl_listings::{BlockFault, File, FileFault, faulty_line, lines_behind, read_file};
 use acl_people::{Host, People};
@@ -27,6 +27,8 @@ pub(super) struct ImpactReporter<'t> {
     /// The users and groups whose names blocks have.
     pub host: &'t Host,
     pub people: &'t People,
+    /// The rules by which POSIX lists are evaluated.
+    pub rules: Rules,
     /// Whether each affected user has a line, and not only the first.
     pub each: bool,
     /// Whether somebody who is none of the users has a line, if no user is affected.
@@ -61,7 +63,7 @@ impl<'t> ImpactReporter<'t> {
             ≡ out.old.items ++ reported_of gone (asking_by self.now) (view_file file.entry)) }
     {
         let path = PrintedPath::of(alloc, file.path)?;
-        let (owners, list) = owners_and_list(alloc, file)?;
+        let (owners, list) = owners_and_list(alloc, self.rules, file)?;
         let acl = FileAcl {
             owners,
             list: list.as_ref(),
@@ -82,8 +84,8 @@ impl<'t> ImpactReporter<'t> {
     {
         let path = PrintedPath::of(alloc, after.path)?;
         let changed = changed_between(&before, &after);
-        let (old_owners, old_list) = owners_and_list(alloc, before)?;
-        let (new_owners, new_list) = owners_and_list(alloc, after)?;
+        let (old_owners, old_list) = owners_and_list(alloc, self.rules, before)?;
+        let (new_owners, new_list) = owners_and_list(alloc, self.rules, after)?;
         let old = FileAcl {
             owners: old_owners,
             list: old_list.as_ref(),

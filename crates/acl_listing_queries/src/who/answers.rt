@@ -25,7 +25,7 @@ use super::numbers::RecentNumbers;
 use super::way::Inside;
 use crate::places::{PLACES, place_for_text};
 use acl_access::{
-    PrintedPath, Standing, letters_of_each, places_of_takers, places_of_those_who_may,
+    PrintedPath, Rules, Standing, letters_of_each, places_of_takers, places_of_those_who_may,
     standings_of_each, which_may,
 };
 use acl_bridge::FileAcl;
@@ -92,6 +92,8 @@ pub(super) struct Users<'t> {
     pub host: &'t Host,
     pub people: &'t People,
     pub asked: Asked,
+    /// The rules by which POSIX lists are evaluated.
+    pub rules: Rules,
     /// Whether it is asked who may search a file.
     pub reach: bool,
 }
@@ -173,7 +175,7 @@ impl<'t> Users<'t> {
         let file = read_file(alloc, text, self.host)?;
         let stranger = file_stranger(self.host, &file, lines);
         let sticky = file.flags.sticky;
-        let (owners, list) = owners_and_list(alloc, file)?;
+        let (owners, list) = owners_and_list(alloc, self.rules, file)?;
         let acl = FileAcl {
             owners,
             list: list.as_ref(),
@@ -204,7 +206,7 @@ impl<'t> Users<'t> {
         ensures { (file : FileValue) (sticky : Bool) (way : List File)
             → AreAnswersOf self.now file kept.now → IsInside self.now sticky way inside.entry
             → IsPart (part_of (asking_of self.now).persons (question_by self.now) sticky way
-            path.now (file_of file)) result out.old.items out.new.items }
+            path.now (file_of self.now.rules file)) result out.old.items out.new.items }
     {
         let names = self.people.names.as_slice();
         let reach = inside.reach;
@@ -352,7 +354,8 @@ impl<'t> Answers<'t> {
             → file_by (names_by self.old.users) text.now ≡ Ok file
             → IsAnsweredAt self.old place file → IsInside self.old.users sticky way inside.entry
             → IsPart (part_of (asking_of self.old.users).persons (question_by self.old.users) sticky
-            way (printed_path file.path) (file_of file)) result out.old.items out.new.items }
+            way (printed_path file.path) (file_of self.old.users.rules file)) result out.old.items
+            out.new.items }
     {
         match (kept_at(self.kept.as_slice(), place), path_of(text)) {
             (Some(kept), Some(path)) => {

@@ -19,8 +19,8 @@ use acl_cli::{
 use acl_names::Requester;
 use acl_people::options::{ACCOUNTS, DOMAIN, USERS};
 use acl_people::{read_host, read_people};
-use acl_reports::options::LISTING;
-use acl_reports::{listing_field, report_named};
+use acl_reports::options::{DRAFT, LISTING};
+use acl_reports::{listing_field, report_named, rules_field};
 use clap::ArgMatches;
 use std::alloc::{AllocError, Global};
 use std::io::{Read, Write};
@@ -49,7 +49,7 @@ fails while it is read, or the answer can't be written; 4 if some files, or all,
 can't be evaluated, or the listing has none.";
 
 /// Reports who may do what with each file of a listing: `who [--accounts FILE] [--domain DOMAIN]
-/// [--perms P | --letters | --delete] [--reach] [--via] [--user NAME].. LISTING`.
+/// [--perms P | --letters | --delete] [--reach] [--via] [--draft] [--user NAME].. LISTING`.
 ///
 /// LISTING is read as it comes: of `-` what `input` has, else a file of `files`, which leaves
 /// `input` as it is. To `out` goes a line for each file and each user who may do something with it,
@@ -64,7 +64,7 @@ can't be evaluated, or the listing has none.";
 pub struct Who;
 
 /// The words of the line, in the order of help.
-const WORDS: [Word<'static>; 9] = [
+const WORDS: [Word<'static>; 10] = [
     ACCOUNTS,
     DOMAIN,
     OPTIONAL_PERMS,
@@ -92,6 +92,7 @@ const WORDS: [Word<'static>; 9] = [
         value: "",
         help: "Also prints which entries of the list decide, before the path",
     },
+    DRAFT,
     USERS,
     LISTING,
 ];
@@ -191,6 +192,7 @@ impl CliCommand for Who {
             host: &host,
             people: &people,
             asked,
+            rules: rules_field(matches),
             reach: reach_field(matches),
         };
         report_who(alloc, files, listing_field(matches), users, input, out, err)

@@ -9,25 +9,30 @@ use super::answers::{Answers, Users};
 use super::asked::Asked;
 use super::command::everyone;
 use super::reach::ReachReporter;
+use acl_access::Rules;
 use acl_people::{Host, People};
 use std::alloc::{AllocError, Global};
 
 /// A reporter that appends, for each block of a listing, a byte for each of these people: the
 /// number of the letters that `who --reach` prints for them, 4 for `r`, 2 for `w`, 1 for `x`, and 0
-/// for no line. The names in blocks are those of `host`. Fails only if memory runs out.
+/// for no line. The names in blocks are those of `host`, and `rules` evaluate POSIX lists. Fails
+/// only if memory runs out.
 pub fn letters_by_reach<'t>(
     alloc: Global,
     host: &'t Host,
     people: &'t People,
+    rules: Rules,
 ) -> Result<ReachReporter<'t>, AllocError>
     ensures part { IfOk result (λ reporter. who_part (asking_of reporter.answers.users)
-        ≡ who_part (letters_asked (names_of_host host.entry.now) (persons_in people.entry.now))) }
+        ≡ who_part (letters_asked rules (names_of_host host.entry.now)
+        (persons_in people.entry.now))) }
     ensures stands { IfOk result (λ reporter. IsOnWay reporter []) }
 {
     let users = Users {
         host,
         people,
         asked: Asked::Numbers,
+        rules,
         reach: true,
     };
     let answers = Answers::new(alloc, users)?;

@@ -72,7 +72,7 @@ impl<'t> ReachReporter<'t> {
             → IsEveryone (whos_of self.now.answers.users) self.now.everyone.items
             → AreFolders self.now.answers.users self.now.folders.items way
             → IfOk result (λ reach. option_map (λ marks. marks.items) reach
-            ≡ marks_of (whos_of self.now.answers.users) (folders_to block way)) }
+            ≡ marks_of self.now.answers.users (folders_to block way)) }
     {
         let Some(place) = before.place else {
             return Ok(None);
@@ -89,8 +89,8 @@ impl<'t> ReachReporter<'t> {
     fn standings(&self, alloc: Global, before: &Before) -> Result<Vec<Standing>, AllocError>
         ensures { (block : Reading) → IsPlacedAt self.now.answers before.now.place block
             → IfOk result (λ standings. standings.items
-            ≡ standings_for (question_by self.now.answers.users) (whos_of self.now.answers.users)
-            block.file) }
+            ≡ standings_for self.now.answers.users.rules (question_by self.now.answers.users)
+            (whos_of self.now.answers.users) block.file) }
     {
         let Some(place) = before.place else {
             return Ok(Vec::new(alloc));

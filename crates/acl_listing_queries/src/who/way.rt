@@ -55,7 +55,7 @@ pub(super) fn reach_of<'t>(
     ensures { (users : Users) (way : List Reading) (here : Reading)
         → here.path ≡ Some path.now → IsEveryone (whos_of users) everyone.entry.now
         → AreFolders users folders.entry.now way
-        → option_map (λ marks. marks.now) result ≡ marks_of (whos_of users) (chain_to way here) }
+        → option_map (λ marks. marks.now) result ≡ marks_of users (chain_to way here) }
 {
     let Some(folder) = folders.last() else {
         return Some(everyone);

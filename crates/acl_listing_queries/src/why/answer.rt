@@ -76,16 +76,16 @@ fn report_deletion(
 ) -> Result<Vec<u8>, FileFault>
     ensures reported { let asking = asked_by question.now in (way : List Reading)
         → IsNearest asking.names folders.now.last way
-        → IfOk result (λ text. sought_part Deletion asking.who folders.now.reach
+        → IfOk result (λ text. sought_part asking.rules Deletion asking.who folders.now.reach
         folders.now.text.items (nearest way) (view_at at.now) ≡ Ok text.items) }
     ensures refused { let asking = asked_by question.now in (way : List Reading)
         → IsNearest asking.names folders.now.last way
-        → IfErr result (IsFaultOf (sought_part Deletion asking.who folders.now.reach
+        → IfErr result (IsFaultOf (sought_part asking.rules Deletion asking.who folders.now.reach
         folders.now.text.items (nearest way) (view_at at.now))) }
 {
     let folder = folders.nearest(alloc, question.host)?;
     let (path, sticky) = (folder.path, folder.flags.sticky);
-    let (owners, list) = owners_and_list(alloc, folder)?;
+    let (owners, list) = owners_and_list(alloc, question.rules, folder)?;
     let acl = FileAcl {
         owners,
         list: list.as_ref(),
@@ -109,12 +109,13 @@ fn report_sought(
 ) -> Result<Vec<u8>, FileFault>
     ensures reported { let asking = asked_by question.now in (way : List Reading)
         → IsNearest asking.names folders.now.last way
-        → IfOk result (λ text. sought_part asking.sought asking.who folders.now.reach
-        folders.now.text.items (nearest way) (view_at at.now) ≡ Ok text.items) }
+        → IfOk result (λ text. sought_part asking.rules asking.sought asking.who
+        folders.now.reach folders.now.text.items (nearest way) (view_at at.now)
+        ≡ Ok text.items) }
     ensures refused { let asking = asked_by question.now in (way : List Reading)
         → IsNearest asking.names folders.now.last way
-        → IfErr result (IsFaultOf (sought_part asking.sought asking.who folders.now.reach
-        folders.now.text.items (nearest way) (view_at at.now))) }
+        → IfErr result (IsFaultOf (sought_part asking.rules asking.sought asking.who
+        folders.now.reach folders.now.text.items (nearest way) (view_at at.now))) }
 {
     match question.sought {
         Sought::Permissions(perms) => {
@@ -143,7 +144,7 @@ fn report_block(
 {
     let file = read_file(alloc, text, question.host)?;
     let path = file.path;
-    let (owners, list) = owners_and_list(alloc, file)?;
+    let (owners, list) = owners_and_list(alloc, question.rules, file)?;
     let acl = FileAcl {
         owners,
         list: list.as_ref(),

@@ -20,8 +20,8 @@ use acl_cli::{
 };
 use acl_people::options::{ACCOUNTS, DOMAIN};
 use acl_people::{Host, Person, read_host};
-use acl_reports::listing_field;
-use acl_reports::options::LISTING;
+use acl_reports::options::{DRAFT, LISTING};
+use acl_reports::{listing_field, rules_field};
 use clap::ArgMatches;
 use std::alloc::Global;
 use std::io::{Read, Write};
@@ -58,7 +58,7 @@ known, as standard error reports.";
 pub struct Why;
 
 /// The words of the line, in the order of help.
-const WORDS: [Word<'static>; 7] = [
+const WORDS: [Word<'static>; 8] = [
     ACCOUNTS,
     DOMAIN,
     Word {
@@ -74,6 +74,7 @@ const WORDS: [Word<'static>; 7] = [
         value: "",
         help: "Reports why the user may delete, rename or replace it, or not; instead of --perms",
     },
+    DRAFT,
     LISTING,
     Word {
         given: Given::RequiredWord,
@@ -192,6 +193,7 @@ impl CliCommand for Why {
         let person = read_user(alloc, &host, matches)?;
         let question = Question {
             host: &host,
+            rules: rules_field(matches),
             requester: &person.requester,
             sought,
         };

@@ -79,7 +79,7 @@ impl<'t> Folders<'t> {
             Err(FileFault::Memory) => return Err(FileFault::Memory),
         };
         let path = file.path;
-        let (owners, list) = owners_and_list(alloc, file)?;
+        let (owners, list) = owners_and_list(alloc, question.rules, file)?;
         let acl = FileAcl {
             owners,
             list: list.as_ref(),

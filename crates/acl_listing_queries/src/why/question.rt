@@ -1,5 +1,6 @@
 //! What `why` evaluates for a file.
 
+use acl_access::Rules;
 use acl_names::Requester;
 use acl_people::Host;
 use acl_posix::Perms;
@@ -13,10 +14,12 @@ pub(super) enum Sought {
     Deletion,
 }
 
-/// The users and groups whose names blocks have, the requester, and what is evaluated.
+/// The users and groups whose names blocks have, the rules by which POSIX lists are evaluated, the
+/// requester, and what is evaluated.
 #[derive(Clone, Copy)]
 pub(super) struct Question<'t> {
     pub host: &'t Host,
+    pub rules: Rules,
     pub requester: &'t Requester,
     pub sought: Sought,
 }

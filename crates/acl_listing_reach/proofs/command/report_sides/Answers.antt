@@ -9,6 +9,7 @@ use Rattle.acl_people.specs.Host.{names_of_host}
 use Rattle.acl_people.specs.Asked.{persons_in}
 use Rattle.acl_reports.specs.Listed.{Part}
 use Rattle.acl_reports.specs.ListingMeaning.{inputs_of}
+use Rattle.acl_reports.specs.RulesMeaning.{rules_in}
 use Rattle.acl_listing_queries.specs.WhoPart.{letters_asked, who_part}
 use Rattle.acl_listing_queries.specs.WhoSteps.{asking_of}
 use Rattle.acl_listing_changes.specs.ChangeMeaning.{FailsForListings, after_in, before_in}
@@ -65,10 +66,10 @@ returns g c =
     ∙ ap (λ asks. record reported { each = asked.each; asks = asks }) c.flag_field.ensures in
     let one : List (List ℕ) → List ℕ → Part = who_part (asking_of c.in_ok-letters_by_reach.field-0.answers.users) in
     let other : List (List ℕ) → List ℕ → Part = who_part (asking_of c.in_ok-letters_by_reach-2.field-0.answers.users) in
-    let one_part : List (List ℕ) → List ℕ → Part = who_part (letters_asked names persons) in
-    let other_part : List (List ℕ) → List ℕ → Part = who_part (letters_asked other_names others) in
-    let one_is : one ≡ one_part = c.in_ok-letters_by_reach.ensures.part in
-    let other_is : other ≡ other_part = c.in_ok-letters_by_reach-2.ensures.part in
+    let one_part : List (List ℕ) → List ℕ → Part = who_part (letters_asked (rules_in rows) names persons) in
+    let other_part : List (List ℕ) → List ℕ → Part = who_part (letters_asked (rules_in rows) other_names others) in
+    let one_is : one ≡ one_part = c.in_ok-letters_by_reach.ensures.part ∙ ap (λ rules. who_part (letters_asked rules names persons)) c.rules_field-rules.ensures in
+    let other_is : other ≡ other_part = c.in_ok-letters_by_reach-2.ensures.part ∙ ap (λ rules. who_part (letters_asked rules other_names others)) c.rules_field-rules.ensures in
     let meaning = sources_meaning reported (source_named files input names one before) (source_named files input other_names other after) in
     Comes-as meaning (asked_meaning files input rows host persons other_host others) c.report_between.result _ _ _ _ _ _
     (λ answer is. answers_as IsReachAnswer files input names other_names answer reported asked asking_is one one_part other other_part one_is other_is

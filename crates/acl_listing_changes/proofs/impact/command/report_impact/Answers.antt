@@ -72,6 +72,7 @@ returns g c =
     let reported : ImpactAsking = record {
       names = names_of_host host;
       stranger = stranger_in host;
+      rules = c.rules_field.result;
       concern = concern;
       written = c.flag_field.result;
       asks = c.flag_field-2.result;
@@ -83,9 +84,10 @@ returns g c =
     ∙ ap (λ each. record concern { persons = persons; known = (concern_in persons rows).known; each = each }) c.each_has_a_line.ensures
     ∙ ap (λ those. record (concern_in persons rows) { somebody = not those }) c.names_users.ensures in
     let asking_is : reported ≡ asked =
-    ap (λ concern. record reported { concern = concern }) concern_is
-    ∙ ap (λ written. record reported { concern = asked.concern; written = written }) c.flag_field.ensures
-    ∙ ap (λ asks. record reported { concern = asked.concern; written = asked.written; asks = asks }) c.flag_field-2.ensures in
+    ap (λ rules. record reported { rules = rules }) c.rules_field.ensures
+    ∙ ap (λ concern. record reported { rules = asked.rules; concern = concern }) concern_is
+    ∙ ap (λ written. record reported { rules = asked.rules; concern = asked.concern; written = written }) c.flag_field.ensures
+    ∙ ap (λ asks. record reported { rules = asked.rules; concern = asked.concern; written = asked.written; asks = asks }) c.flag_field-2.ensures in
     let part = change_meaning (impacting reported) files input before after in
     Comes-as part (lists_meaning files input rows) c.report_between.result _ _ _ _ _ _
     (λ answer is. record {

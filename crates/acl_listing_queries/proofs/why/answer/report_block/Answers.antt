@@ -42,8 +42,8 @@ returns-clause-reported c = λ path earlier is kept.
     let apart : begins_apart earlier here ≡ true =
     c.in_ok-folders.ensures.apart earlier here (way_to_it asking earlier text file reads path c.args.way.now is kept) (path_of-file asking.names text file reads) in
     let acl : File = file_with c.in_ok-owners.owners (view_list c.as_ref.result) in
-    let acl_is : acl ≡ file_of file = search rules in
-    let part : why_part asking earlier text ≡ sought_part asking.sought asking.who folders.reach folders.text.items (nearest way) (record { path = file.path; file = acl }) =
+    let acl_is : acl ≡ file_of asking.rules file = search rules in
+    let part : why_part asking earlier text ≡ sought_part asking.rules asking.sought asking.who folders.reach folders.text.items (nearest way) (record { path = file.path; file = acl }) =
     part_sought asking earlier text file reads at.files folders.reach folders.text.items acl apart at.known at.reach at.text acl_is in
     subst (λ part. IfOk c.report_sought.result (λ (said : Vec ℕ Global). part ≡ Ok said.items)) (sym part) (c.report_sought.ensures.reported way at.last)
 
@@ -61,7 +61,7 @@ returns-clause-refused c = λ path earlier is kept.
     let apart : begins_apart earlier here ≡ true =
     c.in_ok-folders.ensures.apart earlier here (way_to_it asking earlier text file reads path c.args.way.now is kept) (path_of-file asking.names text file reads) in
     let acl : File = file_with c.in_ok-owners.owners (view_list c.as_ref.result) in
-    let acl_is : acl ≡ file_of file = search rules in
-    let part : why_part asking earlier text ≡ sought_part asking.sought asking.who folders.reach folders.text.items (nearest way) (record { path = file.path; file = acl }) =
+    let acl_is : acl ≡ file_of asking.rules file = search rules in
+    let part : why_part asking earlier text ≡ sought_part asking.rules asking.sought asking.who folders.reach folders.text.items (nearest way) (record { path = file.path; file = acl }) =
     part_sought asking earlier text file reads at.files folders.reach folders.text.items acl apart at.known at.reach at.text acl_is in
     subst (λ part. IfErr c.report_sought.result (IsFaultOf part)) (sym part) (c.report_sought.ensures.refused way at.last)

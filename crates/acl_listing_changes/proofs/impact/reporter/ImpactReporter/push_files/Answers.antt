@@ -14,8 +14,8 @@ pub returns : goal.returns
 returns c =
     let old : File = file_with c.in_ok-old_owners.old_owners (view_list c.as_ref.result) in
     let new : File = file_with c.in_ok-new_owners.new_owners (view_list c.as_ref-2.result) in
-    let old_is : old ≡ file_of (view_file c.args.before) = ap (file_with c.in_ok-old_owners.old_owners) c.as_ref.ensures ∙ c.in_ok-old_owners.ensures in
-    let new_is : new ≡ file_of (view_file c.args.after) = ap (file_with c.in_ok-new_owners.new_owners) c.as_ref-2.ensures ∙ c.in_ok-new_owners.ensures in
+    let old_is : old ≡ file_of c.args.self.now.rules (view_file c.args.before) = ap (file_with c.in_ok-old_owners.old_owners) c.as_ref.ensures ∙ c.in_ok-old_owners.ensures in
+    let new_is : new ≡ file_of c.args.self.now.rules (view_file c.args.after) = ap (file_with c.in_ok-new_owners.new_owners) c.as_ref-2.ensures ∙ c.in_ok-new_owners.ensures in
     let path : c.bytes.result.now ≡ printed_path c.args.after.path.now = c.bytes.ensures ∙ c.in_ok-path.ensures in
     let second : c.bytes-2.result.now ≡ printed_path c.args.after.path.now = c.bytes-2.ensures ∙ c.in_ok-path.ensures in
     let reported = subst (λ (path : List ℕ). Reports (ReportsImpact (asking_by c.args.self.now).concern old new path) c.args.out.now.items c.push_impact.new.out.items) path

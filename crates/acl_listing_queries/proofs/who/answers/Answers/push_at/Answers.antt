@@ -17,5 +17,5 @@ returns-in_ok-printed-in-Some-Some-clause-reported c = λ file sticky way reads 
     let path : c.in-Some-Some.path.now ≡ file.path = cc in
     let printed : c.bytes.result.now ≡ printed_path file.path = c.bytes.ensures ∙ c.in_ok-printed-in-Some-Some.ensures ∙ ap printed_path path in
     let are : AreAnswersOf users file c.in-Some-Some.kept.now = subst (AreAnswersOf users file) (sym kept) at.are in
-    subst (λ (path : List ℕ). IsPart (part_of (asking_of users).persons (question_by users) sticky way path (file_of file)) c.push.result c.args.out.now.items c.push.new.out.items) printed
+    subst (λ (path : List ℕ). IsPart (part_of (asking_of users).persons (question_by users) sticky way path (file_of users.rules file)) c.push.result c.args.out.now.items c.push.new.out.items) printed
     (c.push.ensures file sticky way are inside)

@@ -4,6 +4,7 @@ use Rattle.acl_cli.proofs.CommandsLemmas.{Comes-as}
 use Rattle.acl_people.specs.Host.{names_of_host}
 use Rattle.acl_reports.specs.Listed.{AnswersNaming, BeginsNaming}
 use Rattle.acl_reports.specs.ListingMeaning.{FailsForListing, bytes_named, inputs_of, naming_meaning}
+use Rattle.acl_reports.specs.RulesMeaning.{rules_in}
 use Rattle.acl_reports.specs.Strangers.{stranger_in}
 use Rattle.acl_people.specs.Asked.{names_of_people, persons_of}
 use Rattle.acl_people.proofs.AskedLemmas.{persons_again}
@@ -24,14 +25,16 @@ returns g c =
     let name_is = c.listing_field.ensures in
     let reported : Asking = record {
       names = names_of_host host;
+      rules = c.rules_field.result;
       persons = persons_of (names_of_people c.in_ok-people.people) c.in_ok-people.people.requesters.items;
       question = asked_for;
       reach = c.reach_field.result;
     } in
-    let asked : Asking = record { names = names_of_host host; persons = persons; question = asked_for; reach = reach_in rows } in
+    let asked : Asking = record { names = names_of_host host; rules = rules_in rows; persons = persons; question = asked_for; reach = reach_in rows } in
     let asking_is : reported ≡ asked =
     ap (λ persons. record reported { persons = persons }) (persons_again persons c.in_ok-people.people people)
-    ∙ ap (λ reach. record { names = names_of_host host; persons = persons; question = asked_for; reach = reach }) c.reach_field.ensures in
+    ∙ ap (λ rules. record { names = names_of_host host; rules = rules; persons = persons; question = asked_for; reach = c.reach_field.result }) c.rules_field.ensures
+    ∙ ap (λ reach. record { names = names_of_host host; rules = rules_in rows; persons = persons; question = asked_for; reach = reach }) c.reach_field.ensures in
     let part = naming_meaning files input name (names_of_host host) (who_part reported) (stranger_in host) in
     Comes-as part (who_meaning files input rows) c.report_who.result _ _ _ _ _ _
     (λ answer is. record {

@@ -29,7 +29,7 @@ returns-clause-part c = λ earlier stands.
     let sticky = is_sticky (way_of before here) in
     let lies : Inside = record { reach = c.as_slice.result; folder = None } in
     let inside : IsInside c.find.new.self.users sticky [] lies = record { reach = marks; folder = no_folder (question_by c.find.new.self.users) (whos_of c.find.new.self.users) sticky } in
-    let reported = subst (λ (users : Users). IsPart (part_of (asking_of users).persons (question_by users) sticky [] (printed_path file.path) (file_of file)) c.push_at.result c.args.out.now.items c.push_at.new.out.items) now
+    let reported = subst (λ (users : Users). IsPart (part_of (asking_of users).persons (question_by users) sticky [] (printed_path file.path) (file_of users.rules file)) c.push_at.result c.args.out.now.items c.push_at.new.out.items) now
     (c.push_at.ensures.reported file sticky [] reads found.2 inside) in
     subst (λ b. IsPart (part_by asking sticky (file_by asking.names text) (way_for b before here)) c.push_at.result c.args.out.now.items c.push_at.new.out.items) (sym stands.reach)
     (subst (λ said. IsPart (part_by asking sticky said (Some [])) c.push_at.result c.args.out.now.items c.push_at.new.out.items) (sym found.1) reported)

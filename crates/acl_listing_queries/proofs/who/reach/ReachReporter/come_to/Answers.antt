@@ -3,7 +3,7 @@ use Rattle.std.specs.List.{fold, list_any}
 use Rattle.std.proofs.lemmas.Bool.{or_parts}
 use Rattle.acl_listings.specs.Way.{is_above}
 use Rattle.acl_listing_queries.specs.Ways.{may_be_above, those_above, way_on}
-use Rattle.acl_listing_queries.specs.WhoSteps.{AreFolders, IsChain, folders_to, lacks_path, marks_of, whos_of}
+use Rattle.acl_listing_queries.specs.WhoSteps.{AreFolders, IsChain, folders_to, lacks_path, marks_of}
 use Rattle.acl_listing_queries.specs.declared.who.reach.Before.{Before}
 use Rattle.acl_listing_queries.specs.declared.who.way.Folder.{Folder}
 use Rattle.acl_listing_queries.proofs.ReachSteps.{StandsAt, chain_on, known_on, stands}
@@ -24,7 +24,7 @@ returns-in_ok-push-clause-folders c = λ seen here asks path known everyone behi
     let left : those_above here at.way ≡ at.way = all_left here at.block c.args.path.now path above_here none.0 at.way chain.0 in
     let way_is : those_above here (fold way_on [] seen) ≡ at.block ∷ at.way =
     ap (those_above here) at.stack_is ∙ ap (λ b. cond b (at.block ∷ those_above here at.way) (those_above here at.way)) above_here ∙ ap (λ more. at.block ∷ more) left in
-    let reach : option_map (λ marks. marks.items) c.in_ok-reach.reach ≡ marks_of (whos_of users) (folders_to at.block at.way) = c.in_ok-reach.ensures at.block at.way asks at.path at.placed everyone at.are in
+    let reach : option_map (λ marks. marks.items) c.in_ok-reach.reach ≡ marks_of users (folders_to at.block at.way) = c.in_ok-reach.ensures at.block at.way asks at.path at.placed everyone at.are in
     let standings = c.in_ok-standings.ensures at.block at.placed in
     let top : Folder = record { path = before.path; reach = c.in_ok-reach.reach; standings = c.in_ok-standings.standings } in
     let more : c.push.new.self.items ≡ folders ++ top ∷ [] = search rules in

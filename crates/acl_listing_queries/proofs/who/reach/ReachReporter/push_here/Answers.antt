@@ -1,4 +1,5 @@
 use Rattle.std.proofs.Common.{rules, ◌≡◌, ◌∙◌, List, Some, None, ap, cond, false, refl, subst, sym, true}
+use Rattle.acl_reports.specs.Files.{files_of}
 use Rattle.acl_reports.specs.Reporting.{IsPart}
 use Rattle.acl_listing_queries.specs.Readings.{reading_of}
 use Rattle.acl_listing_queries.specs.Ways.{chain_to, is_sticky}
@@ -35,7 +36,7 @@ returns-in-Some-clause-reported c = λ way begins file come apart path reads at.
     let begun : begins ≡ true = sym (apart c.if-self.false) ∙ is_apart in
     subst (λ found. IsPart (part_on (asking_of users) (is_sticky way) file found) c.push_at.result c.args.out.now.items c.push_at.new.out.items)
     (sym (ap (λ b. cond b (chain_to way here) None) begun ∙ known.1))
-    (c.push_at.ensures.reported file (is_sticky way) known.0 reads at known.2)
+    (c.push_at.ensures.reported file (is_sticky way) (files_of users.rules known.0) reads at known.2)
 
 pub returns-in-None-clause-reported : goal.returns-in-None-clause-reported
 returns-in-None-clause-reported c = λ way begins file come apart path reads at.

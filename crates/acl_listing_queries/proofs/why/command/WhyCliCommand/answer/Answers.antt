@@ -5,6 +5,7 @@ use Rattle.acl_people.specs.Host.{names_of_host}
 use Rattle.acl_people.specs.Person.{Person}
 use Rattle.acl_reports.specs.ListingMeaning.{inputs_of}
 use Rattle.acl_listing_queries.specs.PathWord.{as_listed}
+use Rattle.acl_reports.specs.RulesMeaning.{rules_in}
 use Rattle.acl_listing_queries.specs.WhyMeaning.{AnswersPath, FailsForPath, blocks_named, path_in, path_meaning, why_meaning}
 use Rattle.acl_listing_queries.specs.WhySteps.{sought_by}
 use Rattle.acl_listing_queries.specs.WhyText.{Sought, WhyAsking}
@@ -22,9 +23,11 @@ returns g c =
     let name_is = c.listing_field-name.ensures in
     let path : List ℕ = as_listed c.path_field.result.now in
     let path_is = c.path_field.ensures in
-    let asked : WhyAsking = record { names = names_of_host host; who = person.who; sought = sought } in
-    let reported : WhyAsking = record { names = names_of_host host; who = c.person.inside.requester; sought = sought } in
-    let same : reported ≡ asked = ap (λ (person : Person). record { names = names_of_host host; who = person.who; sought = sought }) c.person.view_is in
+    let asked : WhyAsking = record { names = names_of_host host; rules = rules_in rows; who = person.who; sought = sought } in
+    let reported : WhyAsking = record { names = names_of_host host; rules = c.rules_field.result; who = c.person.inside.requester; sought = sought } in
+    let same : reported ≡ asked =
+    ap (λ (person : Person). record { names = names_of_host host; rules = c.rules_field.result; who = person.who; sought = sought }) c.person.view_is
+    ∙ ap (λ rules. record { names = names_of_host host; rules = rules; who = person.who; sought = sought }) c.rules_field.ensures in
     Comes-as (path_meaning reported files input name path) (why_meaning files input rows) c.report_why.result _ _ _ _ _ _
     (λ answer is. record {
       host = host;

@@ -20,8 +20,8 @@ returns-clause-reported c = λ way was.
     let next : Reading = reading_of asking.names text in
     let file : FileValue = view_file c.in-Ok.file in
     let reads : file_by asking.names text ≡ Ok file = search rules in
-    let acl : File = file_of file in
-    let folder_is : folder_of next ≡ Some acl = ap (λ said. folder_of (record { path = path_of text; file = said })) reads in
+    let acl : File = file_of asking.rules file in
+    let folder_is : folder_of next ≡ Some file = ap (λ said. folder_of (record { path = path_of text; file = said })) reads in
     let held : is_held way next.path ≡ true = ap (is_held way) (sym c.path_of.ensures) ∙ sym (c.are_above.ensures asking.names way was.last) ∙ search rules in
     let granted : c.in_ok-granted.granted ≡ may acl asking.who 1 = search rules in
     let both : c.if-granted.self ≡ (c.in_ok-granted.granted && c.args.self.now.reach) =
@@ -31,10 +31,10 @@ returns-clause-reported c = λ way was.
     ] in
     let reported : c.push_decision.new.out.items ≡ c.args.self.now.text.items ++ decision_text (codes "folder") file.path acl asking.who 1 = search rules in
     record {
-      files = acl ∷ was.files;
-      known = known-more way next acl was.files was.known held folder_is;
+      files = file ∷ was.files;
+      known = known-more way next file was.files was.known held folder_is;
       reach = both ∙ ap (λ b. b && c.args.self.now.reach) granted ∙ ap (λ b. may acl asking.who 1 && b) was.reach;
       text = reported ∙ ap (λ (front : List ℕ). front ++ decision_text (codes "folder") file.path acl asking.who 1) was.text
-          ∙ sym (folders-more asking.who way next ∙ ap (λ said. flat_map (folder_text asking.who) (reverse way) ++ folder_text asking.who (record { path = path_of text; file = said })) reads);
+          ∙ sym (folders-more asking.rules asking.who way next ∙ ap (λ said. flat_map (folder_text asking.rules asking.who) (reverse way) ++ folder_text asking.rules asking.who (record { path = path_of text; file = said })) reads);
       last = (refl, refl);
     }
