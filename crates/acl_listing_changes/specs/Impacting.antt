@@ -34,8 +34,8 @@ pub record Concern : Type 0 where
   pub somebody : Bool
 
 -- the names that blocks have, and which id without an account a block names first; the rules by
--- which lists are evaluated; whose lines are printed; whether a path whose block differs as read has
--- a line; and whether the exit status reports that there is a line
+-- which lists are evaluated; whose lines are printed; whether a path whose block differs as read
+-- has a line; and whether the exit status reports that there is a line
 pub record ImpactAsking : Type 0 where
   pub names : Names
   pub stranger : List ℕ → Option Stranger
