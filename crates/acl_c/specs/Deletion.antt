@@ -1,12 +1,12 @@
 -- What a call reports that is asked who may delete a file.
 use Rattle.std.specs.Prelude.{◌≡◌, ◌↔◌, ℕ, ℤ, Bool, true, IsTrue, List, Result, Ok}
+use Rattle.acl_access.specs.declared.rules.Rules.{Rules}
 use Rattle.acl_bridge.specs.declared.any_acl.AnyAcl.TheVariants.{Posix}
 use Rattle.acl_c.specs.Answers.{number_of_answer, zero_number}
 use Rattle.acl_c.specs.declared.nfs4.File.{File}
 use Rattle.acl_names.specs.Requester.{Identity}
 use Rattle.acl_posix.specs.Entry.{EntryValue}
 use Rattle.acl_wire.specs.Deletion.{file_of, xattr_deletion}
-use Rattle.acl_wire.specs.declared.check.Rules.{Rules}
 use Rattle.acl_wire.specs.declared.fault.PosixFault.{PosixFault}
 
 -- whether it is granted; and 0, or the number of why there is no answer
