@@ -4,8 +4,8 @@ import re
 import subprocess
 import sys
 
-# The kit whose wording is known here.
-KIT = "rattle-kit-13f"
+# The kits whose wording is known here.
+KITS = ("rattle-kit-13b", "rattle-kit-13f")
 # What a check says of a proof: that an answer is refused, or that one is wanting.
 TOLD = re.compile(r"(?:\./)?(proofs/\S+)/\w+\.antt:\d+:\d+: error: |fn \S+: no proof: expected answers in (?:\./)?(proofs/\S+)/Answers\.antt;")
 # Why a proof file may be refused that names what an edit took away.
@@ -13,11 +13,11 @@ NAMES = re.compile(r"has no field|is not in scope|has no `|was not admitted")
 
 
 def stop_on_another_kit():
-    """Stops if the kit isn't the one whose wording is known here."""
+    """Stops if the kit isn't one whose wording is known here."""
     said = subprocess.run(["rt", "version"], capture_output=True, text=True, check=True).stdout
-    if said.split()[:1] != [KIT]:
+    if said.partition(" ")[0] not in KITS:
         sys.exit(
-            f"dev/wrong-bodies knows the words of {KIT}, and this is {said.strip()}: "
+            f"dev/wrong-bodies knows the words of {' and '.join(KITS)}, and this is {said.strip()}: "
             "look at dev/wrong_bodies/judging.py, and at its tests"
         )
 

@@ -17,3 +17,4 @@ pub mod WhySeekLemmas
 pub mod WhyPartLemmas
 pub mod DeletionTextLemmas
 pub mod DeletionLawLemmas
+pub mod OutputLemmas

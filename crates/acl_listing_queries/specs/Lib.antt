@@ -9,6 +9,8 @@ pub mod ViaSteps
 pub mod WhoSteps
 pub mod WhoLine
 pub mod WhoMeaning
+pub mod WhoOutput
+pub mod OutputLaws
 pub mod WayLaws
 pub mod WhyReasons
 pub mod WhyDeletion

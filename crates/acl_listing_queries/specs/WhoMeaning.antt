@@ -19,7 +19,7 @@ use Rattle.acl_reports.specs.Strangers.{stranger_in}
 use Rattle.acl_reports.specs.declared.stranger.Stranger.{Stranger}
 use Rattle.acl_people.specs.People.{IsAskedFailure, asked_in}
 use Rattle.acl_people.specs.Person.{Person}
-use Rattle.acl_listing_queries.specs.WhoPart.{Deletion, Question, Via, What, who_part}
+use Rattle.acl_listing_queries.specs.WhoPart.{Asking, Deletion, Question, Via, What, who_part}
 use Rattle.acl_listing_queries.specs.WhoText.{AllLetters, Asked, asked_by}
 
 -- what is asked for by permissions, if the words have them, else by letters
@@ -56,26 +56,32 @@ question_in rows =
 abbrev pub reach_in : List Row → Bool
 reach_in rows = flag_in (codes "reach") rows || flag_in (codes "delete") rows
 
--- the files say who there is, the words whom and what they ask about, and the answer is what
--- follows from it, with which ids the listing names that no account has
-pub record WhoAnswers (Is : Text → Names → (List (List ℕ) → List ℕ → Part)
-    → (List ℕ → Option Stranger) → Option (List ℕ) → Answer → Type 0)
-    (bytes_of : Text → Option (List ℕ)) (input : Option (List ℕ)) (rows : List Row)
-    (answer : Answer) : Type 0 where
+-- the files say who there is, and the words whom and what they ask about
+pub record WhoAsked (bytes_of : Text → Option (List ℕ)) (rows : List Row) : Type 0 where
   pub host : Host
   pub host_is : IsHost bytes_of rows host
   pub persons : List Person
   pub persons_are : asked_in host rows ≡ Ok persons
   pub question : Question
   pub question_is : question_in rows ≡ Ok question
-  pub is : Is (listing_in rows) (names_of_host host)
-      (who_part (record {
-        names = names_of_host host;
-        rules = rules_in rows;
-        persons = persons;
-        question = question;
-        reach = reach_in rows;
-      })) (stranger_in host) (bytes_named bytes_of input (listing_in rows)) answer
+
+abbrev pub asking_in : {bytes_of : Text → Option (List ℕ)} → (rows : List Row)
+    → WhoAsked bytes_of rows → Asking
+asking_in rows asked = record {
+  names = names_of_host asked.host;
+  rules = rules_in rows;
+  persons = asked.persons;
+  question = asked.question;
+  reach = reach_in rows;
+}
+
+-- the answer is what follows from that, with which ids the listing names that no account has
+abbrev pub WhoAnswers : (Text → Names → (List (List ℕ) → List ℕ → Part)
+    → (List ℕ → Option Stranger) → Option (List ℕ) → Answer → Type 0)
+    → (Text → Option (List ℕ)) → Option (List ℕ) → List Row → Answer → Type 0
+WhoAnswers Is bytes_of input rows answer = (asked : WhoAsked bytes_of rows)
+    × Is (listing_in rows) (names_of_host asked.host) (who_part (asking_in rows asked))
+    (stranger_in asked.host) (bytes_named bytes_of input (listing_in rows)) answer
 
 -- the files don't say who there is, nobody is asked about, or the listing fails
 abbrev pub FailsForFiles : (Text → Option (List ℕ)) → List Row → Failure → Type 0

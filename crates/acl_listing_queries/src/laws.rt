@@ -1,7 +1,8 @@
-//! The laws of the way to a file and of the entries that decide, over the definitions alone, and
-//! how much is kept.
+//! The laws of the way to a file, of the entries that decide and of what is printed, over the
+//! definitions alone, and how much is kept.
 ghost use Rattle.std.specs.Prelude.{◌≡◌};
 ghost use Rattle.acl_listing_queries.specs.DeletionLaws.{DeletionsAgree};
+ghost use Rattle.acl_listing_queries.specs.OutputLaws.{WhoAnswersPrint, WhoBeginsPrint};
 ghost use Rattle.acl_listing_queries.specs.ViaLaws.{EntriesGrant, NumbersAllow};
 ghost use Rattle.acl_listing_queries.specs.WayLaws.{WaysAreAllAbove, WaysHaveAllAbove};
 ghost use Rattle.acl_listing_queries.specs.WayLaws.{WaysHaveAllBefore};
@@ -30,6 +31,14 @@ pub fn via_laws()
 /// user and this path. There is nothing to run here: a proof cites the contract.
 pub fn deletion_laws()
     ensures agree { DeletionsAgree }
+{}
+
+/// What `who` means says what stands on standard output, in definitions without faults, counts and
+/// failures: `WhoPrints`; if it fails midway, the part of that for the listing's first blocks, of
+/// which a prefix goes out. There is nothing to run here: a proof cites the contract.
+pub fn output_laws()
+    ensures answered { WhoAnswersPrint }
+    ensures begun { WhoBeginsPrint }
 {}
 
 /// How many answers for files with different lines are cached, as a number. There is nothing to run

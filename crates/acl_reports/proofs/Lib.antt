@@ -1,4 +1,5 @@
 pub mod BlocksLemmas
 pub mod ClosingLemmas
+pub mod OutputLemmas
 pub mod SeenLemmas
 pub mod StrangersLemmas

@@ -2,6 +2,7 @@ pub mod Files
 pub mod Strangers
 pub mod Listed
 pub mod Reporting
+pub mod Output
 pub mod Seen
 pub mod ListingMeaning
 pub mod RulesMeaning
@@ -9,3 +10,4 @@ pub mod Paths
 pub mod Placed
 pub mod ClosingLaws
 pub mod StrangersLaws
+pub mod OutputLaws

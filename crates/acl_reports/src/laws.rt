@@ -1,5 +1,6 @@
-//! The law of the closing lines of a listing, about the definitions alone.
+//! The laws of what is reported for a listing, about the definitions alone.
 ghost use Rattle.acl_reports.specs.ClosingLaws.{ClosingShapes, EndingShapes};
+ghost use Rattle.acl_reports.specs.OutputLaws.{AnswersPrint, BegunAnswersPrintFronts};
 ghost use Rattle.acl_reports.specs.StrangersLaws.{CountsStrangers};
 
 /// The closing lines of a listing, and how its report ends, by what became of its blocks: a listing
@@ -11,4 +12,13 @@ pub fn closing_laws()
     ensures says { ClosingShapes }
     ensures ends { EndingShapes }
     ensures strangers { CountsStrangers }
+{}
+
+/// Standard output has what is reported for each block, in the listing's order, and nothing else.
+/// If the report fails midway, it has what is reported for the first of them. So it can be read
+/// without the definitions of faults, counts and closing lines. There is nothing to run here: a
+/// proof cites the contract.
+pub fn output_laws()
+    ensures whole { AnswersPrint }
+    ensures front { BegunAnswersPrintFronts }
 {}

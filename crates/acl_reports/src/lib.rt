@@ -18,7 +18,7 @@ mod tally;
 pub use blocks::{BlockReporter, push_fault, push_fault_at};
 pub use counts::Counts;
 pub use files::owners_and_list;
-pub use laws::closing_laws;
+pub use laws::{closing_laws, output_laws};
 pub use named::{INPUT, listing_field, report_named};
 pub use next_block::advance;
 pub use rules::rules_field;

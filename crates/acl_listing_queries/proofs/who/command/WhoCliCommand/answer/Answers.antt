@@ -8,7 +8,7 @@ use Rattle.acl_reports.specs.RulesMeaning.{rules_in}
 use Rattle.acl_reports.specs.Strangers.{stranger_in}
 use Rattle.acl_people.specs.Asked.{names_of_people, persons_of}
 use Rattle.acl_people.proofs.AskedLemmas.{persons_again}
-use Rattle.acl_listing_queries.specs.WhoMeaning.{reach_in, who_meaning}
+use Rattle.acl_listing_queries.specs.WhoMeaning.{WhoAsked, asking_in, reach_in, who_meaning}
 use Rattle.acl_listing_queries.specs.WhoPart.{Asking, who_part}
 use Rattle.acl_listing_queries.specs.WhoSteps.{question_of}
 use Rattle.acl_listing_queries.proofs.who.command.WhoCliCommand.answer.Goals as goal
@@ -30,33 +30,27 @@ returns g c =
       question = asked_for;
       reach = c.reach_field.result;
     } in
-    let asked : Asking = record { names = names_of_host host; rules = rules_in rows; persons = persons; question = asked_for; reach = reach_in rows } in
-    let asking_is : reported ≡ asked =
+    let asked : WhoAsked files rows = record {
+      host = host;
+      host_is = c.in_ok-host.ensures.opened;
+      persons = persons;
+      persons_are = persons_are;
+      question = asked_for;
+      question_is = c.in_ok-asked.ensures.read;
+    } in
+    let asking : Asking = asking_in rows asked in
+    let asking_is : reported ≡ asking =
     ap (λ persons. record reported { persons = persons }) (persons_again persons c.in_ok-people.people people)
     ∙ ap (λ rules. record { names = names_of_host host; rules = rules; persons = persons; question = asked_for; reach = c.reach_field.result }) c.rules_field.ensures
     ∙ ap (λ reach. record { names = names_of_host host; rules = rules_in rows; persons = persons; question = asked_for; reach = reach }) c.reach_field.ensures in
     let part = naming_meaning files input name (names_of_host host) (who_part reported) (stranger_in host) in
     Comes-as part (who_meaning files input rows) c.report_who.result _ _ _ _ _ _
-    (λ answer is. record {
-      host = host;
-      host_is = c.in_ok-host.ensures.opened;
-      persons = persons;
-      persons_are = persons_are;
-      question = asked_for;
-      question_is = c.in_ok-asked.ensures.read;
-      is = subst (λ (name : List ℕ). AnswersNaming name (names_of_host host) (who_part asked) (stranger_in host) (bytes_named files input name) answer) name_is
-          (subst (λ (asking : Asking). AnswersNaming name (names_of_host host) (who_part asking) (stranger_in host) (bytes_named files input name) answer) asking_is is);
-    })
-    (λ answer is. record {
-      host = host;
-      host_is = c.in_ok-host.ensures.opened;
-      persons = persons;
-      persons_are = persons_are;
-      question = asked_for;
-      question_is = c.in_ok-asked.ensures.read;
-      is = subst (λ (name : List ℕ). BeginsNaming name (names_of_host host) (who_part asked) (stranger_in host) (bytes_named files input name) answer) name_is
-          (subst (λ (asking : Asking). BeginsNaming name (names_of_host host) (who_part asking) (stranger_in host) (bytes_named files input name) answer) asking_is is);
-    })
+    (λ answer is. (asked,
+      subst (λ (name : List ℕ). AnswersNaming name (names_of_host host) (who_part asking) (stranger_in host) (bytes_named files input name) answer) name_is
+      (subst (λ (asking : Asking). AnswersNaming name (names_of_host host) (who_part asking) (stranger_in host) (bytes_named files input name) answer) asking_is is)))
+    (λ answer is. (asked,
+      subst (λ (name : List ℕ). BeginsNaming name (names_of_host host) (who_part asking) (stranger_in host) (bytes_named files input name) answer) name_is
+      (subst (λ (asking : Asking). BeginsNaming name (names_of_host host) (who_part asking) (stranger_in host) (bytes_named files input name) answer) asking_is is)))
     (λ failure fails. inr (rw c.in_ok-asked.ensures.read refl, inr (inr (subst (λ (name : List ℕ). FailsForListing name failure) name_is fails))))
     (λ none. ap inputs_of name_is ∙ none)
     c.report_who.ensures
