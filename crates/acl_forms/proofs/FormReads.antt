@@ -5,7 +5,7 @@ use Rattle.acl_names.specs.Names.{Names}
 use Rattle.acl_names.specs.Steps.{or_fault}
 use Rattle.acl_names.proofs.StepLemmas.{bind_ok, given}
 use Rattle.acl_nfs4.specs.Ace.{Nfsace4, IsAce, ace_of, is_idle}
-use Rattle.acl_nfs4.specs.AceText.{refuse_idle}
+use Rattle.acl_nfs4.specs.AceFields.{refuse_idle}
 use Rattle.acl_nfs4.specs.Acl.{AreAces}
 use Rattle.acl_nfs4.specs.declared.limits.TheConstants.{MAX_ACES}
 use Rattle.acl_nfs4.specs.declared.ace.AceType.{AceType}

@@ -1,5 +1,5 @@
-use Rattle.acl_nfs4.proofs.NamedLemmas.{AreAces-by}
-use Rattle.acl_nfs4.proofs.named.read_aces_by.Goals as goal
+use Rattle.acl_nfs4.proofs.ReadLemmas.{AreAces-by}
+use Rattle.acl_nfs4.proofs.reading.read_aces_by.Goals as goal
 
 pub from_items-requires : goal.from_items-requires
 from_items-requires g c = record {
