@@ -46,12 +46,12 @@ each_said P value_of holds (text ∷ texts) (ace ∷ aces) said =
     All-cons P ace aces (holds text ace here) (each_said P value_of holds texts aces rest)
 
 -- a text whose pieces say entries spells a list of them
-pub AreAces-spelt : {F : Type 0} (value_of : List ℕ → Result Nfsace4 F) → ((piece : List ℕ) (ace : Nfsace4) → value_of piece ≡ Ok ace → IsRead ace)
+pub AreAces-spelt : {F : Type 0} (value_of : List ℕ → Result Nfsace4 F) → ((piece : List ℕ) (ace : Nfsace4) → value_of piece ≡ Ok ace → IsAce ace × (is_idle ace ≡ false))
     → (text : List ℕ) (aces : List Nfsace4) → Spells value_of MAX_ACES text aces → AreAces aces
 AreAces-spelt value_of read text aces spells = record {
   within = spells.within;
-  each = each_said IsAce value_of (λ piece ace e. (read piece ace e).is_ace) _ aces spells.said;
-  effective = each_said (λ ace. is_idle ace ≡ false) value_of (λ piece ace e. (read piece ace e).effective) _ aces spells.said;
+  each = each_said IsAce value_of (λ piece ace e. (read piece ace e).0) _ aces spells.said;
+  effective = each_said (λ ace. is_idle ace ≡ false) value_of (λ piece ace e. (read piece ace e).1) _ aces spells.said;
 }
 
 -- the parts of a piece in the shape of an entry, but for its who
@@ -125,10 +125,7 @@ module _ (names : Names) (piece : List ℕ) where
   value_of_parts ace parts =
       value_of_shaped parts.shape ∙ ap (λ who. who >>= (λ who. refuse_idle (ace_for parts.shape who))) parts.who_is ∙ ap refuse_idle parts.made
 
-ace_read : (names : Names) (piece : List ℕ) (ace : Nfsace4) → ace_by names piece ≡ Ok ace → IsRead ace
+pub ace_read : (names : Names) (piece : List ℕ) (ace : Nfsace4) → ace_by names piece ≡ Ok ace → IsAce ace × (is_idle ace ≡ false)
 ace_read names piece ace e =
     let (parts, effective) = parts_of names piece ace e in
-    record { is_ace = subst IsAce parts.made (IsAce-ace_of parts.shape.kind parts.shape.flags parts.who parts.shape.mask); effective = effective }
-
-pub AreAces-by : (names : Names) (text : List ℕ) (aces : List Nfsace4) → Spells (ace_by names) MAX_ACES text aces → AreAces aces
-AreAces-by names = AreAces-spelt (ace_by names) (ace_read names)
+    (subst IsAce parts.made (IsAce-ace_of parts.shape.kind parts.shape.flags parts.who parts.shape.mask), effective)

@@ -47,6 +47,8 @@ pub use named::named_who;
 pub use owners::Owners;
 pub use pairs::{AboutWho, Compared, difference_by_pairs, difference_with, is_known, stranger};
 pub use printing::push_ace;
-pub use reading::{NamedAceReader, PieceFault, read_aces, read_aces_by, refuse_idle};
+pub use reading::{
+    NamedAceReader, PieceFault, read_aces, read_aces_by, read_aces_with, refuse_idle,
+};
 pub use short::push_short_ace;
 pub use who::Who;

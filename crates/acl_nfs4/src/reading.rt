@@ -1,10 +1,10 @@
 //! Reading lists of entries.
 
-ghost use Rattle.std.specs.Prelude.{Some, ◌≡◌, ◌≢◌, ◌≤◌, ℕ, List, length, option_map};
+ghost use Rattle.std.specs.Prelude.{Ok, Some, ◌≡◌, ◌≢◌, ◌≤◌, ℕ, false, List, length, option_map};
 ghost use Rattle.std.specs.Prelude.{IfOk, IfErr, MatchResult};
-ghost use Rattle.acl_names.specs.ListText.{Spells};
+ghost use Rattle.acl_names.specs.ListText.{IsFaultOf, Spells};
 ghost use Rattle.acl_names.specs.Pieces.{pieces};
-ghost use Rattle.acl_nfs4.specs.Ace.{Nfsace4};
+ghost use Rattle.acl_nfs4.specs.Ace.{IsAce, Nfsace4, is_idle};
 ghost use Rattle.acl_nfs4.specs.AceFields.{refuse_idle, fields_of, type_of};
 ghost use Rattle.acl_nfs4.specs.AceText.{piece_value};
 ghost use Rattle.acl_nfs4.specs.AceViews.{view_fields};
@@ -136,7 +136,31 @@ pub fn read_aces_by<N: ResolveNames>(
         → MatchResult result (λ acl. acl ≡ aces) (λ fault. fault ≡ Memory) }
     ensures short { length (pieces text.now) ≤ INLINE_ACES → IfErr result (λ fault. fault ≢ Memory) }
 {
-    match read_list(alloc, &NamedAceReader { names }, MAX_ACES, text) {
+    read_aces_with(alloc, text, &NamedAceReader { names })
+}
+
+/// Reads a list in any form, by a reader of its entries.
+///
+/// The first faulty piece decides the fault; a 129th piece is `TooMany` before it is read. `Memory`
+/// means that memory ran out.
+pub fn read_aces_with<R: PieceReader<Value = Ace, Fault = PieceFault>>(
+    alloc: Global,
+    text: &[u8],
+    reader: &R,
+) -> Result<Acl4, AceFault>
+    // What is read has an effect.
+    requires { (piece : List ℕ) (ace : Nfsace4) → R.value_of reader.now piece ≡ Ok ace
+        → IsAce ace × (is_idle ace ≡ false) }
+    ensures read { IfOk result (Spells (R.value_of reader.now) MAX_ACES text.now) }
+    ensures fault { IfErr result (λ fault. IsFaultOf (R.value_of reader.now) MAX_ACES text.now
+        (list_fault fault)) }
+
+    // A text that spells a list is read, unless memory runs out.
+    ensures only { (aces : List Nfsace4) → Spells (R.value_of reader.now) MAX_ACES text.now aces
+        → MatchResult result (λ acl. acl ≡ aces) (λ fault. fault ≡ Memory) }
+    ensures short { length (pieces text.now) ≤ INLINE_ACES → IfErr result (λ fault. fault ≢ Memory) }
+{
+    match read_list(alloc, reader, MAX_ACES, text) {
         Ok(aces) => Ok(Acl4::from_items(aces)),
         Err(fault) => Err(AceFault::from(fault)),
     }
