@@ -1,7 +1,6 @@
 -- An entry that is printed with its ids in decimal is read again, by whatever names.
-use Rattle.std.proofs.Common.{◌≡◌, ◌∙◌, ◌≤◌, ℕ, List, [], ◌∷◌, None, Ok, ap, ap₂, codes, decimal, inl, map, refl}
+use Rattle.std.proofs.Common.{◌≡◌, ◌∙◌, ◌≤◌, ℕ, List, None, Ok, ap, ap₂, codes, decimal, inl, map, refl}
 use Rattle.std.specs.List.{All}
-use Rattle.std.proofs.lemmas.List.Elements.{All-nil, All-head, All-tail, All-cons}
 use Rattle.acl_names.specs.Directory.{Known, gid_of, uid_of}
 use Rattle.acl_names.specs.Ids.{Number, written_id}
 use Rattle.acl_names.specs.ListText.{Spells}
@@ -10,7 +9,7 @@ use Rattle.acl_names.specs.Plain.{IsField}
 use Rattle.acl_names.specs.declared.limits.TheConstants.{MAX_ID}
 use Rattle.acl_names.proofs.Fields.{tested_field}
 use Rattle.acl_names.proofs.IdTexts.{decimal_read, written_decimal}
-use Rattle.acl_names.proofs.PlainJoined.{IsPlainPiece, pieces_of_joined}
+use Rattle.acl_names.proofs.PlainJoined.{IsPlainPiece}
 use Rattle.acl_nfs4.specs.Ace.{Nfsace4}
 use Rattle.acl_nfs4.specs.AceText.{names_in_domain, piece_value}
 use Rattle.acl_nfs4.specs.Acl.{AreAces}
@@ -22,7 +21,7 @@ use Rattle.acl_nfs4.specs.declared.who.Who.{Who}
 use Rattle.acl_nfs4.specs.declared.who.Who.TheVariants.{Owner, Group, Everyone, User, NamedGroup}
 use Rattle.acl_nfs4.proofs.DomainLemmas.{id_read, special_none}
 use Rattle.acl_nfs4.proofs.ReadLemmas.{IsRead}
-use Rattle.acl_nfs4.proofs.RoundTrip.{IsPrinted, IsWritten, are_printed, decimal_field, each_again, fields_again_as, fields_piece}
+use Rattle.acl_nfs4.proofs.RoundTrip.{IsPrinted, IsWritten, decimal_field, fields_again_as, joined_pieces, joined_spell}
 
 pub short_field : (who : Who) → HasId who → IsField (short_who who)
 short_field Owner has_id = tested_field (codes "OWNER@") refl
@@ -48,22 +47,11 @@ module _ (names : Names) (numbers : ReadNumbers names) where
   short_written : (who : Who) → HasId who → IsWritten names (short_who who) who
   short_written who has_id = record { field = short_field who has_id; reads = who_again who has_id }
 
+  short_ace_again : (ace : Nfsace4) → IsPrinted ace → (ace_by names (short_ace ace) ≡ Ok ace) × IsPlainPiece (short_ace ace)
+  short_ace_again = fields_again_as names short_who short_written
+
   pub short_again : (ace : Nfsace4) → IsRead ace → HasId ace.who → ace_by names (short_ace ace) ≡ Ok ace
-  short_again ace is has_id = fields_again_as names short_who short_written ace (record { read = is; has_id = has_id })
-
-  pieces_of : (aces : List Nfsace4) → All IsPrinted aces → All IsPlainPiece (map short_ace aces)
-  pieces_of [] are = All-nil IsPlainPiece
-  pieces_of (ace ∷ aces) are =
-      All-cons IsPlainPiece (short_ace ace) (map short_ace aces) (fields_piece names short_who short_written ace (All-head IsPrinted ace aces are))
-      (pieces_of aces (All-tail IsPrinted ace aces are))
-
-  short_spelt : (aces : List Nfsace4) → AreAces aces → HaveIds aces → Spells (ace_by names) MAX_ACES (short_text aces) aces
-  short_spelt aces are have =
-      let printed = are_printed aces are have in
-      record {
-        said = ap (map (ace_by names)) (pieces_of_joined (map short_ace aces) (pieces_of aces printed)) ∙ each_again names short_who short_written aces printed;
-        within = are.within;
-      }
+  short_again ace is has_id = (short_ace_again ace (record { read = is; has_id = has_id })).0
 
 numbers_in_domain : (known : Known) → ReadNumbers (names_in_domain known)
 numbers_in_domain known = record {
@@ -71,8 +59,12 @@ numbers_in_domain known = record {
   gids = λ gid small. id_read known (gid_of known) (decimal gid) gid (inl (decimal_read gid small));
 }
 
-pub short_pieces : (known : Known) (aces : List Nfsace4) → AreAces aces → HaveIds aces → All IsPlainPiece (map short_ace aces)
-short_pieces known aces are have = pieces_of (names_in_domain known) (numbers_in_domain known) aces (are_printed aces are have)
+module _ (known : Known) where
+  again : (ace : Nfsace4) → IsPrinted ace → (piece_value known (short_ace ace) ≡ Ok ace) × IsPlainPiece (short_ace ace)
+  again = short_ace_again (names_in_domain known) (numbers_in_domain known)
 
-pub short_spells : (known : Known) (aces : List Nfsace4) → AreAces aces → HaveIds aces → Spells (piece_value known) MAX_ACES (short_text aces) aces
-short_spells known = short_spelt (names_in_domain known) (numbers_in_domain known)
+  pub short_pieces : (aces : List Nfsace4) → AreAces aces → HaveIds aces → All IsPlainPiece (map short_ace aces)
+  short_pieces = joined_pieces (piece_value known) short_ace again
+
+  pub short_spells : (aces : List Nfsace4) → AreAces aces → HaveIds aces → Spells (piece_value known) MAX_ACES (short_text aces) aces
+  short_spells = joined_spell (piece_value known) short_ace again

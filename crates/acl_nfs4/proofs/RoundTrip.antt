@@ -1,13 +1,13 @@
 -- The printed text of a list spells its entries.
 use Rattle.std.proofs.Common.{◌≡◌, ℕ, ◌≤◌, ◌<◌, Bool, true, false, not, ◌&&◌, ◌||◌, List, [], ◌∷◌, ◌++◌}
-use Rattle.std.proofs.Common.{length, map, Option, Some, None, Ok, refl, sym, ap, ◌∙◌, inl, inr}
+use Rattle.std.proofs.Common.{length, map, Option, Some, None, Result, Ok, refl, sym, ap, ◌∙◌, inl, inr}
 use Rattle.std.proofs.Common.{arith, codes, decimal, length-append, eqb-true}
-use Rattle.std.specs.List.{All, AllByRecursion, join_with_byte}
+use Rattle.std.specs.List.{All, AllByRecursion, flat_map, join_with_byte}
 use Rattle.std.specs.Char.{is_ascii_digit}
 use Rattle.std.proofs.lemmas.Bool.Decides.{nat_tests}
-use Rattle.std.proofs.lemmas.List.Elements.{All-head, All-tail, All-cons, All-append, All-weaker}
+use Rattle.std.proofs.lemmas.List.Elements.{All-nil, All-head, All-tail, All-cons, All-append, All-weaker}
 use Rattle.acl_names.specs.declared.limits.TheConstants.{MAX_ID}
-use Rattle.acl_names.specs.Bytes.{colon, at_sign}
+use Rattle.acl_names.specs.Bytes.{colon, comma, newline, at_sign}
 use Rattle.acl_names.specs.Bits.{has, without, ◌∩◌}
 use Rattle.acl_names.specs.Directory.{Known, NamesReadBack, uid_of, gid_of, user_name, group_name}
 use Rattle.acl_names.specs.Ids.{ReadBack, stands_in_domain, continues_name}
@@ -19,7 +19,7 @@ use Rattle.acl_names.proofs.BitSets.{has-and, has-or, has-without, has-zero, sam
 use Rattle.acl_names.proofs.Fields.{fields_again, joined_plain, tested_field, name_byte_in_field, digit_in_field}
 use Rattle.acl_names.proofs.IdTexts.{decimal_read}
 use Rattle.acl_names.proofs.LettersAgain.{letters_again}
-use Rattle.acl_names.proofs.PlainJoined.{IsPlainPiece}
+use Rattle.acl_names.proofs.PlainJoined.{IsPlainPiece, pieces_of_joined}
 use Rattle.acl_names.proofs.PlainLines.{IsMark, nothing, pieces_of_lines}
 use Rattle.acl_nfs4.specs.Ace.{Nfsace4, IsAce, ace_of, flags_for}
 use Rattle.acl_nfs4.specs.AceFields.{as_fields, type_of}
@@ -118,6 +118,43 @@ are_printed aces are have = λ k d inside. record {
   has_id = have k d inside;
 }
 
+-- a list of entries, each of which is printed as a plain piece that says it
+module _ {F : Type 0} (value_of : List ℕ → Result Nfsace4 F) (text_of : Nfsace4 → List ℕ)
+    (again : (ace : Nfsace4) → IsPrinted ace → (value_of (text_of ace) ≡ Ok ace) × IsPlainPiece (text_of ace)) where
+  each_again : (aces : List Nfsace4) → All IsPrinted aces → PiecesSay value_of (map text_of aces) aces
+  each_again [] are = refl
+  each_again (ace ∷ aces) are = rw ((again ace (All-head IsPrinted ace aces are)).0, each_again aces (All-tail IsPrinted ace aces are)) refl
+
+  each_piece : (aces : List Nfsace4) → All IsPrinted aces → All IsPlainPiece (map text_of aces)
+  each_piece [] are = All-nil IsPlainPiece
+  each_piece (ace ∷ aces) are =
+      All-cons IsPlainPiece (text_of ace) (map text_of aces) (again ace (All-head IsPrinted ace aces are)).1 (each_piece aces (All-tail IsPrinted ace aces are))
+
+  abbrev IsLine : Nfsace4 → Type 0
+  IsLine ace = (0 < length (text_of ace)) × IsPlain (text_of ace) × IsMark []
+
+  line_is : (ace : Nfsace4) → IsPrinted ace → IsLine ace
+  line_is ace is = let piece = (again ace is).1 in (piece.0, piece.1, nothing)
+
+  -- one a line
+  pub lines_spell : (aces : List Nfsace4) → AreAces aces → HaveIds aces → Spells value_of MAX_ACES (flat_map (λ ace. text_of ace ++ newline ∷ []) aces) aces
+  lines_spell aces are have =
+      let printed = are_printed aces are have in
+      record {
+        said = ap (map value_of) (pieces_of_lines text_of (λ _. []) aces (All-weaker IsPrinted IsLine line_is aces printed)) ∙ each_again aces printed;
+        within = are.within;
+      }
+
+  -- with a comma between any two
+  pub joined_pieces : (aces : List Nfsace4) → AreAces aces → HaveIds aces → All IsPlainPiece (map text_of aces)
+  joined_pieces aces are have = each_piece aces (are_printed aces are have)
+
+  pub joined_spell : (aces : List Nfsace4) → AreAces aces → HaveIds aces → Spells value_of MAX_ACES (join_with_byte comma (map text_of aces)) aces
+  joined_spell aces are have = record {
+    said = ap (map value_of) (pieces_of_joined (map text_of aces) (joined_pieces aces are have)) ∙ each_again aces (are_printed aces are have);
+    within = are.within;
+  }
+
 module _ (names : Names) where
   -- a field that is read as this who, by the flag that it asks for
   pub record IsWritten (text : List ℕ) (who : Who) : Type 0 where
@@ -129,44 +166,35 @@ module _ (names : Names) where
         → AllByRecursion IsField (type_text ace.kind ∷ letters_text flag_table ace.flags ∷ text_of ace.who ∷ letters_text mask_table ace.mask ∷ [])
     fields_are ace has_id = (type_field ace.kind, (flags-field ace.flags, ((are_written ace.who has_id).field, (mask-field ace.mask, tt))))
 
-    -- an entry is read again
-    pub fields_again_as : (ace : Nfsace4) → IsPrinted ace → ace_by names (fields_text (text_of ace.who) ace) ≡ Ok ace
+    -- an entry is a plain piece, and read again
+    pub fields_again_as : (ace : Nfsace4) → IsPrinted ace → (ace_by names (fields_text (text_of ace.who) ace) ≡ Ok ace) × IsPlainPiece (fields_text (text_of ace.who) ace)
     fields_again_as ace is =
-        value_of_parts names (fields_text (text_of ace.who) ace) ace
-        (record {
-          shape = record {
-            fields = record {
-              kind = type_text ace.kind;
-              flags = letters_text flag_table ace.flags;
-              who = text_of ace.who;
-              letters = letters_text mask_table ace.mask;
-            };
-            kind = ace.kind;
-            flags = ace.flags;
-            mask = ace.mask;
-            cut = ap as_fields (fields_again (type_text ace.kind) (letters_text flag_table ace.flags ∷ text_of ace.who ∷ letters_text mask_table ace.mask ∷ [])
-                (fields_are ace is.has_id));
-            kind_is = type_again ace.kind;
-            flags_are = letters_again flag_table ace.flags flag_table_is is.read.is_ace.known_flags;
-            mask_is = letters_again mask_table ace.mask mask_table_is is.read.is_ace.known_mask;
-          };
-          who = ace.who;
-          who_is = ap (λ b. who_by names b (text_of ace.who)) is.read.is_ace.group_flag ∙ (are_written ace.who is.has_id).reads;
-          made = ace_of-same ace is.read.is_ace;
-        })
-        ∙ refuse_idle_said ace is.read.effective
-
-    -- and is a plain piece
-    pub fields_piece : (ace : Nfsace4) → IsPrinted ace → IsPlainPiece (fields_text (text_of ace.who) ace)
-    fields_piece ace is =
-        let rest = letters_text flag_table ace.flags ∷ text_of ace.who ∷ letters_text mask_table ace.mask ∷ [] in (
-          omega (arith, length-append (type_text ace.kind) (colon ∷ join_with_byte colon rest)),
-          joined_plain (type_text ace.kind) rest (fields_are ace is.has_id),
+        let rest = letters_text flag_table ace.flags ∷ text_of ace.who ∷ letters_text mask_table ace.mask ∷ [] in
+        let are = fields_are ace is.has_id in (
+          value_of_parts names (fields_text (text_of ace.who) ace) ace
+              (record {
+                shape = record {
+                  fields = record {
+                    kind = type_text ace.kind;
+                    flags = letters_text flag_table ace.flags;
+                    who = text_of ace.who;
+                    letters = letters_text mask_table ace.mask;
+                  };
+                  kind = ace.kind;
+                  flags = ace.flags;
+                  mask = ace.mask;
+                  cut = ap as_fields (fields_again (type_text ace.kind) rest are);
+                  kind_is = type_again ace.kind;
+                  flags_are = letters_again flag_table ace.flags flag_table_is is.read.is_ace.known_flags;
+                  mask_is = letters_again mask_table ace.mask mask_table_is is.read.is_ace.known_mask;
+                };
+                who = ace.who;
+                who_is = ap (λ b. who_by names b (text_of ace.who)) is.read.is_ace.group_flag ∙ (are_written ace.who is.has_id).reads;
+                made = ace_of-same ace is.read.is_ace;
+              })
+              ∙ refuse_idle_said ace is.read.effective,
+          (omega (arith, length-append (type_text ace.kind) (colon ∷ join_with_byte colon rest)), joined_plain (type_text ace.kind) rest are),
         )
-
-    pub each_again : (aces : List Nfsace4) → All IsPrinted aces → PiecesSay (ace_by names) (map (λ ace. fields_text (text_of ace.who) ace) aces) aces
-    each_again [] are = refl
-    each_again (ace ∷ aces) are = rw (fields_again_as ace (All-head IsPrinted ace aces are), each_again aces (All-tail IsPrinted ace aces are)) refl
 
 module _ (known : Known) (apart : NamesReadBack known) where
   -- ---- the who
@@ -214,19 +242,5 @@ module _ (known : Known) (apart : NamesReadBack known) where
 
   -- ---- the list
 
-  abbrev IsLine : Nfsace4 → Type 0
-  IsLine ace = (0 < length (ace_text known ace)) × IsPlain (ace_text known ace) × IsMark []
-
-  line_is : (ace : Nfsace4) → IsPrinted ace → IsLine ace
-  line_is ace is =
-      let piece = fields_piece (names_in_domain known) (who_text known) are_written ace is in
-      (piece.0, piece.1, nothing)
-
   pub aces_spelt : (aces : List Nfsace4) → AreAces aces → HaveIds aces → Spells (piece_value known) MAX_ACES (aces_text known aces) aces
-  aces_spelt aces are have =
-      let printed = are_printed aces are have in
-      record {
-        said = ap (map (piece_value known)) (pieces_of_lines (ace_text known) (λ _. []) aces (All-weaker IsPrinted IsLine line_is aces printed))
-            ∙ each_again (names_in_domain known) (who_text known) are_written aces printed;
-        within = are.within;
-      }
+  aces_spelt = lines_spell (piece_value known) (ace_text known) (fields_again_as (names_in_domain known) (who_text known) are_written)
