@@ -22,11 +22,13 @@ impl<'a> ResolveNames for NamesInDomain<'a> {
 
     ghost names = { λ names. names_in_domain names.directory.now };
 
+    #[inline(always)]
     fn uid_written(&self, text: &[u8]) -> Result<Uid, NameFault> {
         let written = written_here(self.directory, text)?;
         self.directory.uid(written).ok_or(NameFault::Unknown)
     }
 
+    #[inline(always)]
     fn gid_written(&self, text: &[u8]) -> Result<Gid, NameFault> {
         let written = written_here(self.directory, text)?;
         self.directory.gid(written).ok_or(NameFault::Unknown)
@@ -44,6 +46,7 @@ impl<'a> ResolveNames for NamesInDomain<'a> {
 }
 
 /// The id that the text writes, or the name without the directory's domain.
+#[inline(always)]
 fn written_here<'t>(directory: &Directory, text: &'t [u8]) -> Result<WrittenId<'t>, NameFault>
     ensures ok { IfOk result (λ written. written_here directory.now.domain (parts at_sign text.now)
         ≡ Ok (view_written written)) }
@@ -54,6 +57,16 @@ fn written_here<'t>(directory: &Directory, text: &'t [u8]) -> Result<WrittenId<'
     if let Some(number) = read_decimal(text) {
         return Ok(WrittenId::Number(number));
     }
+    written_by_parts(directory, text)
+}
+
+/// The same by the parts between each `@`.
+fn written_by_parts<'t>(directory: &Directory, text: &'t [u8]) -> Result<WrittenId<'t>, NameFault>
+    ensures ok { IfOk result (λ written. written_here directory.now.domain (parts at_sign text.now)
+        ≡ Ok (view_written written)) }
+    ensures err { IfErr result (λ fault. written_here directory.now.domain (parts at_sign text.now)
+        ≡ Err fault) }
+{
     let mut parts = Parts::new(b'@', text);
     match (parts.next(), parts.next(), parts.next()) {
         (Some(id), None, _) => WrittenId::read(id).ok_or(NameFault::Malformed),

@@ -7,6 +7,7 @@ use crate::{PieceFault, Who};
 use acl_names::{Gid, NameFault, ResolveNames, Uid};
 
 /// Whom a field names: a special identifier, a user, or with the flag `g` a group.
+#[inline(always)]
 pub(crate) fn read_who<N: ResolveNames>(
     names: &N,
     is_group: bool,
@@ -37,6 +38,7 @@ fn read_special(text: &[u8]) -> Option<Who>
 
 /// The user, or the group, that the text writes. Fails with `Syntax` if it is neither an id nor a
 /// name, and with `UnknownName` if no user, or no group, has the name.
+#[inline(always)]
 pub fn named_who<N: ResolveNames>(names: &N, is_group: bool, text: &[u8]) -> Result<Who, PieceFault>
     ensures { result ≡ named_who (N.names names.now) is_group text.now }
 {
@@ -48,6 +50,7 @@ pub fn named_who<N: ResolveNames>(names: &N, is_group: bool, text: &[u8]) -> Res
 }
 
 /// The user with the uid that was found, or the fault of the piece.
+#[inline(always)]
 fn user_with(found: Result<Uid, NameFault>) -> Result<Who, PieceFault>
     ensures { result ≡ who_with (λ uid. Who.User uid) found }
 {
@@ -59,6 +62,7 @@ fn user_with(found: Result<Uid, NameFault>) -> Result<Who, PieceFault>
 }
 
 /// The group with the gid that was found, or the fault of the piece.
+#[inline(always)]
 fn group_with(found: Result<Gid, NameFault>) -> Result<Who, PieceFault>
     ensures { result ≡ who_with (λ gid. Who.NamedGroup gid) found }
 {
