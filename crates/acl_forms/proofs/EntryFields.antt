@@ -12,8 +12,8 @@ use Rattle.acl_names.proofs.BitSets.{has-and, has-without, same_bits}
 use Rattle.acl_names.proofs.Fields.{fields_again, joined_plain, tested_field}
 use Rattle.acl_names.proofs.PlainJoined.{IsPlainPiece}
 use Rattle.acl_nfs4.specs.Ace.{Nfsace4, IsAce, ace_of, flags_for}
-use Rattle.acl_nfs4.specs.AceText as nfs4
-use Rattle.acl_nfs4.specs.AceText.{refuse_idle}
+use Rattle.acl_nfs4.specs.AceFields as nfs4
+use Rattle.acl_nfs4.specs.AceFields.{refuse_idle}
 use Rattle.acl_nfs4.specs.Flags.{all_flags, identifier_group}
 use Rattle.acl_nfs4.specs.Who.{flags_of_who, is_named_group}
 use Rattle.acl_nfs4.specs.declared.ace.AceType.{AceType}

@@ -1,18 +1,15 @@
 -- What a piece of the freebsd form says that is read: an entry with an effect.
 use Rattle.std.proofs.Common.{◌≡◌, ℕ, false, List, Some, Ok, sym, ap, subst, ◌∙◌}
-use Rattle.acl_names.specs.ListText.{Spells}
 use Rattle.acl_names.specs.Names.{Names}
 use Rattle.acl_names.specs.Steps.{or_fault}
 use Rattle.acl_names.proofs.StepLemmas.{bind_ok, given}
 use Rattle.acl_nfs4.specs.Ace.{Nfsace4, IsAce, ace_of, is_idle}
-use Rattle.acl_nfs4.specs.AceText.{refuse_idle}
-use Rattle.acl_nfs4.specs.Acl.{AreAces}
-use Rattle.acl_nfs4.specs.declared.limits.TheConstants.{MAX_ACES}
+use Rattle.acl_nfs4.specs.AceFields.{refuse_idle}
 use Rattle.acl_nfs4.specs.declared.ace.AceType.{AceType}
 use Rattle.acl_nfs4.specs.declared.reading.PieceFault.TheVariants.{Syntax}
 use Rattle.acl_nfs4.specs.declared.who.Who.{Who}
 use Rattle.acl_nfs4.proofs.AceLemmas.{IsAce-ace_of}
-use Rattle.acl_nfs4.proofs.ReadLemmas.{AreAces-spelt, IsRead, refuse_idle_ok}
+use Rattle.acl_nfs4.proofs.ReadLemmas.{refuse_idle_ok}
 use Rattle.acl_forms.specs.FormText.{FormFields, entry_by, fields_of, type_of, who_by}
 use Rattle.acl_forms.specs.Marks.{marks_of, mark_table, perm_table}
 
@@ -60,10 +57,7 @@ pub value_of_parts : (names : Names) (piece : List ℕ) (ace : Nfsace4) → Part
 unfolding entry_by
 value_of_parts names piece ace parts = rw (parts.cut, parts.mask_is, parts.flags_are, parts.kind_is, parts.who_is) (ap refuse_idle parts.made)
 
-entry_read : (names : Names) (piece : List ℕ) (ace : Nfsace4) → entry_by names piece ≡ Ok ace → IsRead ace
+pub entry_read : (names : Names) (piece : List ℕ) (ace : Nfsace4) → entry_by names piece ≡ Ok ace → IsAce ace × (is_idle ace ≡ false)
 entry_read names piece ace e =
     let (parts, effective) = parts_of names piece ace e in
-    record { is_ace = subst IsAce parts.made (IsAce-ace_of parts.kind parts.flags parts.who parts.mask); effective = effective }
-
-pub AreAces-read : (names : Names) (text : List ℕ) (aces : List Nfsace4) → Spells (entry_by names) MAX_ACES text aces → AreAces aces
-AreAces-read names = AreAces-spelt (entry_by names) (entry_read names)
+    (subst IsAce parts.made (IsAce-ace_of parts.kind parts.flags parts.who parts.mask), effective)

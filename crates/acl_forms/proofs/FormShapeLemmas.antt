@@ -21,7 +21,7 @@ use Rattle.acl_nfs4.specs.declared.reading.PieceFault.TheVariants.{Syntax}
 use Rattle.acl_nfs4.specs.declared.who.Who.{Who}
 use Rattle.acl_nfs4.specs.declared.who.Who.TheVariants.{Owner, Group, Everyone, User, NamedGroup}
 use Rattle.acl_nfs4.proofs.ReadLemmas.{refuse_idle_said}
-use Rattle.acl_nfs4.proofs.ShapeLemmas.{word_of_type}
+use Rattle.acl_nfs4.proofs.ShapeLemmas.{found_says, word_of_special, word_of_type}
 use Rattle.acl_forms.specs.FormShapes.{HasFormShape, IsTag, WritesEntry, WritesId, WritesIdPlainly}
 use Rattle.acl_forms.specs.FormText.{entry_by, special_who, type_of, who_by, who_named}
 use Rattle.acl_forms.specs.PrintedForm.{type_text}
@@ -75,25 +75,10 @@ plainly id_of text id = (says, reads)
 
 -- ---- the tag
 
--- whoever has the id that is resolved
-who_says : (who_of : ℕ → Who) (found : Result ℕ NameFault) (who : Who) → who_with who_of found ≡ Ok who → (id : ℕ) × (found ≡ Ok id) × (who_of id ≡ who)
-who_says who_of (Ok id) who e = (id, refl, cc)
-who_says who_of (Err Malformed) who e = absurd (cc)
-who_says who_of (Err Unknown) who e = absurd (cc)
-
 module _ (names : Names) where
   special_says : (tag : List ℕ) (who : Who) → special_who tag ≡ Some who → IsTag names tag None who
-  special_says tag who e = go (bytes_eq tag (codes "owner@")) refl (bytes_eq tag (codes "group@")) refl (bytes_eq tag (codes "everyone@")) refl e
-    where
-      is : (this : Who) → IsTag names tag None this → this ≡ who → IsTag names tag None who
-      is this tagged same = subst (IsTag names tag None) same tagged
-
-      go : (o : Bool) → bytes_eq tag (codes "owner@") ≡ o → (g : Bool) → bytes_eq tag (codes "group@") ≡ g → (v : Bool) → bytes_eq tag (codes "everyone@") ≡ v
-          → cond o (Some Owner) (cond g (Some Group) (cond v (Some Everyone) None)) ≡ Some who → IsTag names tag None who
-      go true eo g eg v ev e = is Owner ((bytes_eq-Decides tag (codes "owner@")).0 eo, refl) (cc)
-      go false eo true eg v ev e = is Group ((bytes_eq-Decides tag (codes "group@")).0 eg, refl) (cc)
-      go false eo false eg true ev e = is Everyone ((bytes_eq-Decides tag (codes "everyone@")).0 ev, refl) (cc)
-      go false eo false eg false ev e = absurd (cc)
+  special_says tag who e =
+      word_of_special (codes "owner@") (codes "group@") (codes "everyone@") tag (IsTag names tag None) who (λ is. (is, refl)) (λ is. (is, refl)) (λ is. (is, refl)) e
 
   named_says : (tag name : List ℕ) (who : Who) → who_named names tag name ≡ Ok who → IsTag names tag (Some name) who
   named_says tag name who e = go (bytes_eq tag (codes "user")) refl (bytes_eq tag (codes "group")) refl e
@@ -101,10 +86,10 @@ module _ (names : Names) where
       go : (u : Bool) → bytes_eq tag (codes "user") ≡ u → (g : Bool) → bytes_eq tag (codes "group") ≡ g
           → cond u (named_who names false name) (cond g (named_who names true name) (Err Syntax)) ≡ Ok who → IsTag names tag (Some name) who
       go true eu g eg e =
-          let (uid, is, same) = who_says (λ uid. User uid) (resolved names.written names.uid name) who e in
+          let (uid, is, same) = found_says (λ uid. User uid) (resolved names.written names.uid name) who e in
           subst (IsTag names tag (Some name)) same ((bytes_eq-Decides tag (codes "user")).0 eu, (name, refl, id_says names.written names.uid name uid is))
       go false eu true eg e =
-          let (gid, is, same) = who_says (λ gid. NamedGroup gid) (resolved names.written names.gid name) who e in
+          let (gid, is, same) = found_says (λ gid. NamedGroup gid) (resolved names.written names.gid name) who e in
           subst (IsTag names tag (Some name)) same ((bytes_eq-Decides tag (codes "group")).0 eg, (name, refl, id_says names.written names.gid name gid is))
       go false eu false eg e = absurd (cc)
 

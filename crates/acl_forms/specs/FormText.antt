@@ -6,7 +6,7 @@ use Rattle.acl_names.specs.Names.{Names}
 use Rattle.acl_names.specs.Pieces.{trimmed_parts}
 use Rattle.acl_names.specs.Steps.{◌>>=◌, or_fault}
 use Rattle.acl_nfs4.specs.Ace.{Nfsace4, ace_of}
-use Rattle.acl_nfs4.specs.AceText.{refuse_idle}
+use Rattle.acl_nfs4.specs.AceFields.{refuse_idle}
 use Rattle.acl_nfs4.specs.NamedAces.{named_who}
 use Rattle.acl_nfs4.specs.declared.ace.AceType.{AceType}
 use Rattle.acl_nfs4.specs.declared.ace.AceType.TheVariants.{Allow, Deny, Audit, Alarm}

@@ -3,7 +3,7 @@ use Rattle.std.specs.Prelude.{ℕ, Bool, true, false, List, [], ◌∷◌, Optio
 use Rattle.std.specs.Prelude.{if◌then◌else◌}
 use Rattle.acl_names.specs.Bytes.{colon}
 use Rattle.acl_names.specs.Pieces.{parts, pieces, trim}
-use Rattle.acl_nfs4.specs.AceText as nfs4
+use Rattle.acl_nfs4.specs.AceFields as nfs4
 use Rattle.acl_forms.specs.FormText as freebsd
 use Rattle.acl_forms.specs.declared.form.Form.{Form}
 use Rattle.acl_forms.specs.declared.form.Form.TheVariants.{Posix, Nfs4, Freebsd}

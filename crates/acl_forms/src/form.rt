@@ -1,7 +1,7 @@
 //! The form of a text's entries.
 
 ghost use Rattle.std.specs.Prelude.{◌≡◌};
-ghost use Rattle.acl_nfs4.specs.AceText as nfs4;
+ghost use Rattle.acl_nfs4.specs.AceFields as nfs4;
 ghost use Rattle.acl_forms.specs.FormText.{type_of};
 ghost use Rattle.acl_forms.specs.Forms.{form_of, form_of_piece, is_type, last_or};
 

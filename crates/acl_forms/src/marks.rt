@@ -12,100 +12,37 @@ ghost use Rattle.acl_forms.specs.PrintedForm.{marks_of_flags, marks_text, place_
 
 use crate::Places;
 use acl_names::{Letter, push_letters};
-use acl_nfs4::{Flags, Mask};
+use acl_nfs4::{Flags, Mask, letter_table};
 use bitflags::Flags as FlagSet;
 use std::alloc::AllocError;
 
 /// The bits of a mask, in the order in which libarchive prints them.
-const PERM_TABLE: [Letter; 14] = [
-    Letter {
-        letter: b'r',
-        bit: 0x1,
-    },
-    Letter {
-        letter: b'w',
-        bit: 0x2,
-    },
-    Letter {
-        letter: b'x',
-        bit: 0x20,
-    },
-    Letter {
-        letter: b'p',
-        bit: 0x4,
-    },
-    Letter {
-        letter: b'd',
-        bit: 0x10000,
-    },
-    Letter {
-        letter: b'D',
-        bit: 0x40,
-    },
-    Letter {
-        letter: b'a',
-        bit: 0x80,
-    },
-    Letter {
-        letter: b'A',
-        bit: 0x100,
-    },
-    Letter {
-        letter: b'R',
-        bit: 0x8,
-    },
-    Letter {
-        letter: b'W',
-        bit: 0x10,
-    },
-    Letter {
-        letter: b'c',
-        bit: 0x20000,
-    },
-    Letter {
-        letter: b'C',
-        bit: 0x40000,
-    },
-    Letter {
-        letter: b'o',
-        bit: 0x80000,
-    },
-    Letter {
-        letter: b's',
-        bit: 0x100000,
-    },
+const PERM_TABLE: [Letter; 14] = letter_table![
+    b'r' = 0x1,
+    b'w' = 0x2,
+    b'x' = 0x20,
+    b'p' = 0x4,
+    b'd' = 0x10000,
+    b'D' = 0x40,
+    b'a' = 0x80,
+    b'A' = 0x100,
+    b'R' = 0x8,
+    b'W' = 0x10,
+    b'c' = 0x20000,
+    b'C' = 0x40000,
+    b'o' = 0x80000,
+    b's' = 0x100000,
 ];
 
 /// The flags, in the order in which they are printed; the last is read and not kept.
-const MARK_TABLE: [Letter; 7] = [
-    Letter {
-        letter: b'f',
-        bit: 0x1,
-    },
-    Letter {
-        letter: b'd',
-        bit: 0x2,
-    },
-    Letter {
-        letter: b'i',
-        bit: 0x8,
-    },
-    Letter {
-        letter: b'n',
-        bit: 0x4,
-    },
-    Letter {
-        letter: b'S',
-        bit: 0x10,
-    },
-    Letter {
-        letter: b'F',
-        bit: 0x20,
-    },
-    Letter {
-        letter: b'I',
-        bit: 0x80,
-    },
+const MARK_TABLE: [Letter; 7] = letter_table![
+    b'f' = 0x1,
+    b'd' = 0x2,
+    b'i' = 0x8,
+    b'n' = 0x4,
+    b'S' = 0x10,
+    b'F' = 0x20,
+    b'I' = 0x80,
 ];
 
 /// The mask whose letters the text has.

@@ -1,11 +1,10 @@
 //! Reading entries of the freebsd form.
 
 ghost use Rattle.std.specs.Prelude.{◌≡◌, ◌≢◌, ◌≤◌, ℕ, List, Some, length};
-ghost use Rattle.std.specs.Prelude.{IfOk, IfErr, IsOk, MatchResult};
+ghost use Rattle.std.specs.Prelude.{IfOk, IfErr, MatchResult};
 ghost use Rattle.acl_names.specs.ListText.{Spells};
 ghost use Rattle.acl_names.specs.Pieces.{pieces};
 ghost use Rattle.acl_nfs4.specs.Ace.{Nfsace4};
-ghost use Rattle.acl_nfs4.specs.Acl.{AreAces};
 ghost use Rattle.acl_nfs4.specs.declared.acl.AceFault.TheVariants.{Memory};
 ghost use Rattle.acl_nfs4.specs.declared.limits.TheConstants.{INLINE_ACES, MAX_ACES};
 ghost use Rattle.acl_forms.specs.FormText.{entry_by, fields_of, type_of};
@@ -15,8 +14,8 @@ ghost use Rattle.acl_forms.specs.EntriesFault.{IsEntriesFault};
 use crate::fields::{FormFields, read_fields};
 use crate::marks::{read_flags, read_perms};
 use crate::tags::read_who;
-use acl_names::{PieceReader, ResolveNames, read_list};
-use acl_nfs4::{Ace, AceFault, AceType, Acl4, INLINE_ACES, MAX_ACES, PieceFault, refuse_idle};
+use acl_names::{PieceReader, ResolveNames};
+use acl_nfs4::{Ace, AceFault, AceType, Acl4, PieceFault, read_aces_with, refuse_idle};
 use std::alloc::Global;
 
 /// Reads entries, and resolves their names by `names`.
@@ -107,24 +106,5 @@ pub fn read_entries<N: ResolveNames>(
         → MatchResult result (λ acl. acl ≡ aces) (λ fault. fault ≡ Memory) }
     ensures short { length (pieces text.now) ≤ INLINE_ACES → IfErr result (λ fault. fault ≢ Memory) }
 {
-    match read_list::<_, INLINE_ACES>(alloc, &EntryReader { names }, MAX_ACES, text) {
-        Ok(aces) => list_of(alloc, aces.as_slice()),
-        Err(fault) => Err(AceFault::from(fault)),
-    }
-}
-
-/// The list of these entries.
-fn list_of(alloc: Global, aces: &[Ace]) -> Result<Acl4, AceFault>
-    requires { AreAces aces.now }
-    ensures list { IfOk result (λ acl. acl ≡ aces.now) }
-    ensures fault { IfErr result (λ fault. fault ≡ Memory) }
-    ensures short { length aces.now ≤ INLINE_ACES → IsOk result }
-{
-    let mut acl = Acl4::empty(alloc);
-    for ace in aces {
-        if let Err(fault) = acl.push(*ace) {
-            return Err(fault);
-        }
-    }
-    Ok(acl)
+    read_aces_with(alloc, text, &EntryReader { names })
 }

@@ -26,7 +26,7 @@ use Rattle.acl_nfs4.specs.Mask.{mask_bits}
 use Rattle.acl_nfs4.specs.declared.limits.TheConstants.{MAX_ACES}
 use Rattle.acl_nfs4.specs.declared.mask.Mask.{Mask}
 use Rattle.acl_nfs4.proofs.LetterLemmas.{mask_table_is}
-use Rattle.acl_nfs4.proofs.RoundTrip as aces_again
+use Rattle.acl_nfs4.proofs.NamedAgain as aces_again
 use Rattle.acl_posix.specs.AclText.{SpellsAcl}
 use Rattle.acl_posix.specs.Canonical.{IsAcl}
 use Rattle.acl_posix.specs.Entry.{EntryValue}

@@ -30,7 +30,7 @@ use Rattle.acl_nfs4.specs.PrintedText.{short_ace}
 use Rattle.acl_nfs4.specs.declared.inheritance.Kind.{Kind}
 use Rattle.acl_nfs4.specs.declared.inheritance.Kind.TheVariants.{File, Dir}
 use Rattle.acl_nfs4.proofs.LetterLemmas.{mask-field, mask_table_is}
-use Rattle.acl_nfs4.proofs.RoundTrip as aces_again
+use Rattle.acl_nfs4.proofs.NamedAgain as aces_again
 use Rattle.acl_posix.specs.Canonical.{IsAcl}
 use Rattle.acl_posix.specs.Entry.{EntryValue}
 use Rattle.acl_posix.specs.Mode.{Classes, AreClasses}

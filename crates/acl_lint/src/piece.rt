@@ -4,7 +4,7 @@ ghost use Rattle.acl_lint.specs.Places.{is_of_piece, piece_at_fault, piece_of_tr
 ghost use Rattle.acl_lint.specs.Places.{unread_in, unread_of_fields, unread_of_kind};
 
 use acl_names::{Directory, PieceReader, Pieces, split_word, trim_blanks};
-use acl_nfs4::{AceReader, MAX_ACES};
+use acl_nfs4::{MAX_ACES, NamedAceReader, NamesInDomain};
 use acl_posix::{EntryReader, MAX_ENTRIES};
 use acl_tree::LineFault;
 use std::marker::Model;
@@ -46,7 +46,8 @@ fn unread_of_kind<'t>(directory: &Directory, kind: &[u8], text: &'t [u8]) -> Opt
     ensures { result ≡ unread_of_kind directory.now kind.now text.now }
 {
     if kind == b"nfs4".as_slice() {
-        first_unread(&AceReader { directory }, MAX_ACES as u32, text)
+        let names = NamesInDomain { directory };
+        first_unread(&NamedAceReader { names: &names }, MAX_ACES as u32, text)
     } else {
         first_unread(&EntryReader { names: directory }, MAX_ENTRIES as u32, text)
     }

@@ -9,7 +9,7 @@ use Rattle.acl_names.specs.Plain.{IsField}
 use Rattle.acl_names.proofs.Fields.{fields_again, joined_plain}
 use Rattle.acl_names.proofs.PlainJoined.{IsPlainPiece}
 use Rattle.acl_nfs4.specs.Ace.{Nfsace4}
-use Rattle.acl_nfs4.specs.AceText as nfs4
+use Rattle.acl_nfs4.specs.AceFields as nfs4
 use Rattle.acl_nfs4.specs.Letters.{flag_table, mask_table}
 use Rattle.acl_nfs4.specs.NamedAces.{ReadNumbers, ace_by}
 use Rattle.acl_nfs4.specs.PrintedText.{short_ace, short_who, type_text}

@@ -12,7 +12,7 @@ use Rattle.acl_posix.specs.Entry.{EntryValue}
 use Rattle.acl_posix.specs.EntryText.{Fields, as_fields, entry_by, fields_of, tag_word}
 use Rattle.acl_posix.specs.PermsText.{perms_of_text}
 use Rattle.acl_posix.specs.declared.reading.PieceFault.TheVariants.{Syntax}
-use Rattle.acl_nfs4.specs.AceText as nfs4
+use Rattle.acl_nfs4.specs.AceFields as nfs4
 use Rattle.acl_nfs4.specs.declared.ace.AceType.TheVariants as kind
 use Rattle.acl_forms.specs.FormText as freebsd
 use Rattle.acl_forms.specs.Forms.{form_of_fields, form_of_piece, form_of_pieces, is_type}

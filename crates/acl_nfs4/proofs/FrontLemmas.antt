@@ -4,7 +4,7 @@ use Rattle.std.specs.List.{AllByRecursion, join_with_byte}
 use Rattle.acl_names.specs.Bytes.{colon}
 use Rattle.acl_names.specs.Plain.{IsField, IsFront}
 use Rattle.acl_names.proofs.Fields.{fields_again, joined_plain}
-use Rattle.acl_nfs4.specs.AceText.{AceFields, as_fields, fields_of}
+use Rattle.acl_nfs4.specs.AceFields.{AceFields, as_fields, fields_of}
 use Rattle.acl_nfs4.specs.Front.{BeginsWithFields}
 
 pub front_is : {A F : Type 0} (value_of : List ℕ → Result A F) (text : List ℕ) (fields : AceFields) (rest : List ℕ) (value : A)

@@ -20,9 +20,9 @@ pub mod ReadLemmas
 pub mod ModeChangeLeaves
 pub mod ModeChangeLeast
 pub mod ModeChangeLift
+pub mod DomainLemmas
 pub mod RoundTrip
 pub mod WorkedExamples
-pub mod WhoLemmas
 pub mod ShapeLemmas
 pub mod PieceFaultLemmas
 pub mod EvaluationMode
@@ -31,5 +31,4 @@ pub mod MaskLemmas
 pub mod FrontLemmas
 pub mod PrintedFronts
 pub mod PrintedLengths
-pub mod NamedLemmas
 pub mod NamedAgain

@@ -1,29 +1,35 @@
 -- Which fault a piece has that says no entry.
-use Rattle.std.proofs.Common.{◌≡◌, ◌≢◌, ◌↔◌, ℕ, Bool, true, false, cond, List, [], ◌∷◌, Option, Some, None, option_map, Result, Ok, Err, codes, refl, sym, ap, subst, ◌∙◌, bytes_eq}
-use Rattle.std.proofs.lemmas.Slice.Eq.{bytes_eq-Decides}
-use Rattle.std.proofs.lemmas.Option.{cond_some}
+use Rattle.std.proofs.Common.{◌≡◌, ◌≢◌, ◌↔◌, ◌⊎◌, ◌&&◌, ℕ, Bool, true, false, cond, List, [], ◌∷◌, Option, Some, None, Result, Ok, Err, codes, refl, sym, ap, ap₂, subst, ◌∙◌, bytes_eq, inl, inr}
+use Rattle.std.specs.List.{join_with_byte}
+use Rattle.std.proofs.lemmas.List.Splits.{join_with_byte-slice_split}
+use Rattle.acl_names.specs.declared.directory.resolve.NameFault.{NameFault}
+use Rattle.acl_names.specs.declared.directory.resolve.NameFault.TheVariants.{Malformed, Unknown}
 use Rattle.acl_names.specs.Bytes.{at_sign}
 use Rattle.acl_names.specs.Bits.{has}
 use Rattle.acl_names.specs.Directory.{Known, uid_of, gid_of, fault_of}
-use Rattle.acl_names.specs.Ids.{Written, Number, Name, written_id, has_name_shape, has_domain_shape, id_of_written}
-use Rattle.acl_names.specs.Letters.{letters_of}
+use Rattle.acl_names.specs.Ids.{Written, Name, written_id, has_name_shape, has_domain_shape, id_of_written}
+use Rattle.acl_names.specs.Names.{resolved}
 use Rattle.acl_names.specs.Pieces.{parts as split_at_byte}
 use Rattle.acl_names.specs.Steps.{◌>>=◌, or_fault}
+use Rattle.acl_names.proofs.IdTexts.{and_first, and_second}
+use Rattle.acl_names.proofs.StepLemmas.{given}
 use Rattle.acl_posix.proofs.PieceFaultLemmas.{knowing, knowing_faultless, knows_user, knows_group, unfound_name}
 use Rattle.acl_posix.proofs.StepFaults.{same_fault, fault_behind, other_fault}
-use Rattle.acl_nfs4.specs.Ace.{Nfsace4, ace_of, is_idle}
-use Rattle.acl_nfs4.specs.AceText.{AceFields, WrittenWho, fields_of, type_of, special_of, name_at, who_of_parts, written_who, who_with_id, who_of_written, refuse_idle, piece_value}
-use Rattle.acl_nfs4.specs.AceText as form
+use Rattle.acl_nfs4.specs.Ace.{Nfsace4, is_idle}
+use Rattle.acl_nfs4.specs.AceFields.{refuse_idle}
+use Rattle.acl_nfs4.specs.AceShapes.{WritesName}
+use Rattle.acl_nfs4.specs.AceText.{id_in, names_in_domain, piece_value, written_who}
 use Rattle.acl_nfs4.specs.Faults.{IsWritten, HasNoShape, HasUnknownName, HasNoEffect}
 use Rattle.acl_nfs4.specs.Flags.{identifier_group}
-use Rattle.acl_nfs4.specs.Letters.{flag_table, mask_table}
-use Rattle.acl_nfs4.specs.declared.ace.AceType.{AceType}
+use Rattle.acl_nfs4.specs.NamedAces.{special_or, special_who, who_by, who_with}
+use Rattle.acl_nfs4.specs.WrittenHere.{written_here}
 use Rattle.acl_nfs4.specs.declared.reading.PieceFault.{PieceFault}
 use Rattle.acl_nfs4.specs.declared.reading.PieceFault.TheVariants.{Syntax, UnknownName, InheritOnly}
 use Rattle.acl_nfs4.specs.declared.who.Who.{Who}
-use Rattle.acl_nfs4.specs.declared.who.Who.TheVariants as one
-use Rattle.acl_nfs4.proofs.ReadLemmas.{Shaped, Parts, parts_of, shaped}
-use Rattle.acl_nfs4.proofs.ShapeLemmas.{name_says, ace_of_parts, value_of_written}
+use Rattle.acl_nfs4.specs.declared.who.Who.TheVariants.{User, NamedGroup}
+use Rattle.acl_nfs4.proofs.DomainLemmas.{found, named_read, resolved_here}
+use Rattle.acl_nfs4.proofs.ReadLemmas.{IsMisshapen, Shaped, ace_for, parts_of, shape_of, value_of_shaped, who_in}
+use Rattle.acl_nfs4.proofs.ShapeLemmas.{ace_of_parts, value_of_written}
 
 -- ---- the faults differ
 
@@ -61,174 +67,176 @@ idle_fault ace e = go (is_idle ace) e
     go true e = refl
     go false e = cc
 
--- ---- the steps of a piece, each with those after it
+-- a fault of two steps of which the second doesn't have it
+of_first : {A B F : Type 0} (fault : F) (r : Result A F) (f : A → Result B F) → ((x : A) → f x ≢ Err fault) → (r >>= f) ≡ Err fault → r ≡ Err fault
+of_first fault (Ok x) f sound e = absurd (sound x e)
+of_first fault (Err other) f sound e = let is : other ≡ fault = cc in ap Err is
 
-abbrev after_mask : Known → AceType → ℕ → WrittenWho → ℕ → Result Nfsace4 PieceFault
-after_mask known kind flags written mask = or_fault UnknownName (who_of_written known (has flags identifier_group) written) >>= (λ who. refuse_idle (ace_of kind flags who mask))
+-- ---- the faults of a who
 
-abbrev after_who : Known → AceFields → AceType → ℕ → WrittenWho → Result Nfsace4 PieceFault
-after_who known fields kind flags written = or_fault Syntax (letters_of mask_table fields.letters) >>= after_mask known kind flags written
+abbrev IsMalformed : NameFault → Type 0
+IsMalformed Malformed = Unit {0}
+IsMalformed Unknown = ⊥
 
-abbrev after_flags : Known → AceFields → AceType → ℕ → Result Nfsace4 PieceFault
-after_flags known fields kind flags = or_fault Syntax (written_who fields.who) >>= after_who known fields kind flags
+malformed_apart : Malformed ≢ Unknown
+malformed_apart e = subst IsMalformed e tt
 
-abbrev after_kind : Known → AceFields → AceType → Result Nfsace4 PieceFault
-after_kind known fields kind = or_fault Syntax (letters_of flag_table fields.flags) >>= after_flags known fields kind
+unknown_apart : Unknown ≢ Malformed
+unknown_apart e = malformed_apart (sym e)
 
-abbrev after_fields : Known → AceFields → Result Nfsace4 PieceFault
-after_fields known fields = or_fault Syntax (type_of fields.kind) >>= after_kind known fields
+-- what was found of a who with this fault
+abbrev IsCause : PieceFault → Result ℕ NameFault → Type 0
+IsCause Syntax found = found ≡ Err Malformed
+IsCause UnknownName found = found ≡ Err Unknown
+IsCause InheritOnly found = ⊥
+
+cause : (who_of : ℕ → Who) (found : Result ℕ NameFault) (fault : PieceFault) → who_with who_of found ≡ Err fault → IsCause fault found
+cause who_of (Ok id) fault e = absurd (cc)
+cause who_of (Err Malformed) fault e = let is : Syntax ≡ fault = cc in subst (λ (f : PieceFault). IsCause f (Err Malformed)) is refl
+cause who_of (Err Unknown) fault e = let is : UnknownName ≡ fault = cc in subst (λ (f : PieceFault). IsCause f (Err Unknown)) is refl
+
+-- whoever has an id, and the ids of names: of a group, or else of a user
+abbrev one_with : Bool → ℕ → Who
+one_with true gid = NamedGroup gid
+one_with false uid = User uid
+
+abbrev ids_of : Known → Bool → List ℕ → Option ℕ
+ids_of known true = gid_of known
+ids_of known false = uid_of known
+
+abbrev id_found : Known → Bool → List ℕ → Result ℕ NameFault
+id_found known is_group = resolved written_who (id_in (ids_of known is_group) known.domain)
+
+abbrev who_here : Known → Bool → List ℕ → Result Who PieceFault
+who_here known = who_by (names_in_domain known)
+
+who_is_found : (known : Known) (is_group : Bool) (text : List ℕ) → who_here known is_group text ≡ special_or (special_who text) (who_with (one_with is_group) (id_found known is_group text))
+who_is_found known true text = refl
+who_is_found known false text = refl
+
+-- a fault is one of a text that is no special identifier
+fault_of_who : (known : Known) (is_group : Bool) (text : List ℕ) (fault : PieceFault) → who_here known is_group text ≡ Err fault
+    → (special_who text ≡ None) × IsCause fault (id_found known is_group text)
+fault_of_who known is_group text fault e = go (special_who text) (sym (who_is_found known is_group text) ∙ e)
+  where
+    go : (special : Option Who) → special_or special (who_with (one_with is_group) (id_found known is_group text)) ≡ Err fault
+        → (special ≡ None) × IsCause fault (id_found known is_group text)
+    go None e = (refl, cause (one_with is_group) (id_found known is_group text) fault e)
+    go (Some who) e = absurd (cc)
 
 -- ---- Syntax is the same whatever names are known
 
-who_is_shaped : (known : Known) (kind : AceType) (flags : ℕ) (written : WrittenWho) (mask : ℕ) → after_mask known kind flags written mask ≢ Err Syntax
-who_is_shaped known kind flags written mask = go (who_of_written known (has flags identifier_group) written)
-  where
-    go : (who : Option Who) → (or_fault UnknownName who >>= (λ who. refuse_idle (ace_of kind flags who mask))) ≢ Err Syntax
-    go None = λ e. let is : UnknownName ≡ Syntax = cc in not_unknown (sym is)
-    go (Some who) = effect_fault (ace_of kind flags who mask) Syntax not_idle
+who_misshapen : (known other : Known) (is_group : Bool) (text : List ℕ) → who_here known is_group text ≡ Err Syntax → who_here other is_group text ≡ Err Syntax
+who_misshapen known other is_group text e =
+    let (none, is) = fault_of_who known is_group text Syntax e in
+    let there : id_found other is_group text ≡ Err Malformed = same_fault Malformed (or_fault Malformed (written_who text)) _ _
+    (λ written e. absurd (other_fault Unknown Malformed unknown_apart (id_of_written (id_in (ids_of known is_group) known.domain) written) e)) is in
+    who_is_found other is_group text ∙ ap₂ (λ special found. special_or special (who_with (one_with is_group) found)) none there
 
 misshapen_anywhere : (known other : Known) (piece : List ℕ) → piece_value known piece ≡ Err Syntax → piece_value other piece ≡ Err Syntax
-unfolding piece_value
-misshapen_anywhere known other piece =
-    same_fault Syntax (or_fault Syntax (fields_of piece)) (after_fields known) (after_fields other)
-    (λ fields. same_fault Syntax (or_fault Syntax (type_of fields.kind)) (after_kind known fields) (after_kind other fields)
-    (λ kind. same_fault Syntax (or_fault Syntax (letters_of flag_table fields.flags)) (after_flags known fields kind) (after_flags other fields kind)
-    (λ flags. same_fault Syntax (or_fault Syntax (written_who fields.who)) (after_who known fields kind flags) (after_who other fields kind flags)
-    (λ written. same_fault Syntax (or_fault Syntax (letters_of mask_table fields.letters)) (after_mask known kind flags written) (after_mask other kind flags written)
-    (λ mask e. absurd (who_is_shaped known kind flags written mask e))))))
+misshapen_anywhere known other piece e = go (shape_of piece)
+  where
+    go : IsMisshapen piece ⊎ Shaped piece → piece_value other piece ≡ Err Syntax
+    go (inl none) = none (names_in_domain other)
+    go (inr shape) =
+        let last : Who → Result Nfsace4 PieceFault = λ who. refuse_idle (ace_for shape who) in
+        let here = of_first Syntax (who_in (names_in_domain known) shape) last (λ who. effect_fault (ace_for shape who) Syntax not_idle)
+        (sym (value_of_shaped (names_in_domain known) piece shape) ∙ e) in
+        value_of_shaped (names_in_domain other) piece shape
+        ∙ ap (λ who. who >>= last) (who_misshapen known other (has shape.flags identifier_group) shape.fields.who here)
 
 -- ---- what a piece with another fault is made of
 
 -- its shape, after which the fault lies
 abbrev ShapedBefore : Known → List ℕ → PieceFault → Type 0
-ShapedBefore known piece fault = (shape : Shaped piece) × (after_mask known shape.kind shape.flags shape.written shape.mask ≡ Err fault)
+ShapedBefore known piece fault = (shape : Shaped piece) × ((who_in (names_in_domain known) shape >>= (λ who. refuse_idle (ace_for shape who))) ≡ Err fault)
 
 shaped_before : (known : Known) (piece : List ℕ) (fault : PieceFault) → Syntax ≢ fault → piece_value known piece ≡ Err fault → ShapedBefore known piece fault
-unfolding piece_value
-shaped_before known piece fault apart e =
-    let cut = fault_behind fault (or_fault Syntax (fields_of piece)) (after_fields known) (other_fault Syntax fault apart (fields_of piece)) e in
-    let kind = fault_behind fault (or_fault Syntax (type_of cut.0.kind)) (after_kind known cut.0) (other_fault Syntax fault apart (type_of cut.0.kind)) cut.2 in
-    let flags = fault_behind fault (or_fault Syntax (letters_of flag_table cut.0.flags)) (after_flags known cut.0 kind.0)
-    (other_fault Syntax fault apart (letters_of flag_table cut.0.flags)) kind.2 in
-    let written = fault_behind fault (or_fault Syntax (written_who cut.0.who)) (after_who known cut.0 kind.0 flags.0) (other_fault Syntax fault apart (written_who cut.0.who)) flags.2 in
-    let mask = fault_behind fault (or_fault Syntax (letters_of mask_table cut.0.letters)) (after_mask known kind.0 flags.0 written.0)
-    (other_fault Syntax fault apart (letters_of mask_table cut.0.letters)) written.2 in
-    (shaped cut.1 kind.1 flags.1 written.1 mask.1, mask.2)
+shaped_before known piece fault apart e = go (shape_of piece)
+  where
+    go : IsMisshapen piece ⊎ Shaped piece → ShapedBefore known piece fault
+    go (inl none) =
+        let both : Err Syntax ≡ Err fault = sym (none (names_in_domain known)) ∙ e in
+        let same : Syntax ≡ fault = cc in
+        absurd (apart same)
+    go (inr shape) = (shape, sym (value_of_shaped (names_in_domain known) piece shape) ∙ e)
 
 -- ---- an entry without effect
 
 idle_written : (known : Known) (piece : List ℕ) → piece_value known piece ≡ Err InheritOnly → HasNoEffect known piece
-idle_written known piece e = go (who_of_written known (has before.0.flags identifier_group) before.0.written) refl before.1
-  where
-    before : ShapedBefore known piece InheritOnly
-    before = shaped_before known piece InheritOnly not_idle e
-
-    go : (who : Option Who) → who_of_written known (has before.0.flags identifier_group) before.0.written ≡ who
-        → (or_fault UnknownName who >>= (λ who. refuse_idle (ace_of before.0.kind before.0.flags who before.0.mask))) ≡ Err InheritOnly → HasNoEffect known piece
-    go None is f = let same : UnknownName ≡ InheritOnly = cc in absurd (unknown_not_idle same)
-    go (Some who) is f =
-        let ace = ace_of before.0.kind before.0.flags who before.0.mask in
-        (ace, ace_of_parts known piece ace (record { shape = before.0; who = who; who_is = is; made = refl }), idle_fault ace f)
+idle_written known piece e =
+    let (shape, is) = shaped_before known piece InheritOnly not_idle e in
+    let who = fault_behind InheritOnly (who_in (names_in_domain known) shape) (λ who. refuse_idle (ace_for shape who))
+    (λ e. (fault_of_who known (has shape.flags identifier_group) shape.fields.who InheritOnly e).1) is in
+    let ace = ace_for shape who.0 in
+    (ace, ace_of_parts known piece ace (record { shape = shape; who = who.0; who_is = who.1; made = refl }), idle_fault ace who.2)
 
 -- ---- a name that is unknown is known elsewhere
 
+-- a name that the text writes, in a domain of this shape
+record IsNamed (text : List ℕ) : Type 0 where
+  pub name : List ℕ
+  pub domain : List ℕ
+  pub shaped : has_name_shape name ≡ true
+  pub domain_shaped : has_domain_shape domain ≡ true
+  pub writes : WritesName (knowing domain name) text name
+
+-- what is written and not found is a name
+unfound : (id_of : List ℕ → Option ℕ) (here text : List ℕ) → resolved written_who (id_in id_of here) text ≡ Err Unknown → IsNamed text
+unfound id_of here text e = go (split_at_byte at_sign text) (join_with_byte-slice_split at_sign text) (sym (resolved_here id_of here text) ∙ e)
+  where
+    none_found : (id : Option ℕ) → or_fault Unknown id ≡ Err Unknown → id ≡ None
+    none_found None e = refl
+    none_found (Some id) e = absurd (cc)
+
+    go : (texts : List (List ℕ)) → join_with_byte at_sign texts ≡ text → found id_of (written_here here texts) ≡ Err Unknown → IsNamed text
+    go [] joined e = let is : Malformed ≡ Unknown = cc in absurd (malformed_apart is)
+    go (one ∷ []) joined e =
+        let written = fault_behind Unknown (or_fault Malformed (written_id one)) _ (other_fault Malformed Unknown malformed_apart (written_id one)) e in
+        let is = unfound_name id_of one written.0 (given Malformed (written_id one) written.0 written.1) (none_found (id_of_written id_of written.0) written.2) in
+        record { name = one; domain = codes "a"; shaped = is.0; domain_shaped = refl; writes = (is.0, inl (sym joined)) }
+    go (name ∷ domain ∷ []) joined e = shapes (has_name_shape name && has_domain_shape domain) refl e
+      where
+        shapes : (b : Bool) → (has_name_shape name && has_domain_shape domain) ≡ b
+            → found id_of (cond b (cond (bytes_eq domain here) (Ok (Name name)) (Err Unknown)) (Err Malformed)) ≡ Err Unknown → IsNamed text
+        shapes false is e = let same : Malformed ≡ Unknown = cc in absurd (malformed_apart same)
+        shapes true is e =
+            let shaped = and_first (has_name_shape name) (has_domain_shape domain) is in
+            let domain_shaped = and_second (has_name_shape name) (has_domain_shape domain) is in
+            record { name = name; domain = domain; shaped = shaped; domain_shaped = domain_shaped; writes = (shaped, inr (sym joined, domain_shaped)) }
+    go (one ∷ two ∷ three ∷ more) joined e = let is : Malformed ≡ Unknown = cc in absurd (malformed_apart is)
+
 -- the one whom a text names in a faultless directory
-record IsKnownSomewhere (is_group : Bool) (written : WrittenWho) : Type 0 where
+record IsKnownSomewhere (is_group : Bool) (text : List ℕ) : Type 0 where
   pub known : Known
   pub faultless : fault_of known ≡ None
   pub who : Who
-  pub found : who_of_written known is_group written ≡ Some who
+  pub who_is : who_here known is_group text ≡ Ok who
 
--- a name is known where it stands for a user and for a group
-name_found : (is_group : Bool) (domain name : List ℕ) → (who : Who) × (who_with_id (knowing domain name) is_group (Name name) ≡ Some who)
-name_found true domain name = (one.NamedGroup 0, ap (option_map (λ gid. one.NamedGroup gid)) (knows_group domain name))
-name_found false domain name = (one.User 0, ap (option_map (λ uid. one.User uid)) (knows_user domain name))
+knows : (is_group : Bool) (domain name : List ℕ) → ids_of (knowing domain name) is_group name ≡ Some 0
+knows true domain name = knows_group domain name
+knows false domain name = knows_user domain name
 
-none_found : (tag : ℕ → Who) (found : Option ℕ) → option_map tag found ≡ None → found ≡ None
-none_found tag None e = refl
-none_found tag (Some id) e = cc
-
--- what is written and names nobody is a name
-lost_name : (known : Known) (is_group : Bool) (text : List ℕ) (w : Written) → written_id text ≡ Some w → who_with_id known is_group w ≡ None
-    → (has_name_shape text ≡ true) × (w ≡ Name text)
-lost_name known true text w is lost = unfound_name (gid_of known) text w is (none_found (λ gid. one.NamedGroup gid) (id_of_written (gid_of known) w) lost)
-lost_name known false text w is lost = unfound_name (uid_of known) text w is (none_found (λ uid. one.User uid) (id_of_written (uid_of known) w) lost)
-
-id_somewhere : (known : Known) (is_group : Bool) (text : List ℕ) (w : Written) → written_id text ≡ Some w → who_with_id known is_group w ≡ None → IsKnownSomewhere is_group (form.Id w)
-id_somewhere known is_group text w is lost =
-    let name = lost_name known is_group text w is lost in
-    let found = name_found is_group (codes "a") text in
+who_somewhere : (known : Known) (is_group : Bool) (text : List ℕ) → who_here known is_group text ≡ Err UnknownName → IsKnownSomewhere is_group text
+who_somewhere known is_group text e =
+    let is = unfound (ids_of known is_group) known.domain text (fault_of_who known is_group text UnknownName e).1 in
+    let there = knowing is.domain is.name in
     record {
-      known = knowing (codes "a") text;
-      faultless = knowing_faultless (codes "a") text refl name.0;
-      who = found.0;
-      found = ap (who_with_id (knowing (codes "a") text) is_group) name.1 ∙ found.1;
+      known = there;
+      faultless = knowing_faultless is.domain is.name is.domain_shaped is.shaped;
+      who = one_with is_group 0;
+      who_is = who_is_found there is_group text
+          ∙ named_read there (one_with is_group) (ids_of there is_group) text 0 (inr (is.name, is.writes, knows is_group is.domain is.name));
     }
-
-at_somewhere : (is_group : Bool) (name domain : List ℕ) → has_name_shape name ≡ true → has_domain_shape domain ≡ true → IsKnownSomewhere is_group (form.At name domain)
-at_somewhere is_group name domain shaped domain_shaped =
-    let found = name_found is_group domain name in
-    record {
-      known = knowing domain name;
-      faultless = knowing_faultless domain name domain_shaped shaped;
-      who = found.0;
-      found = ap (λ b. cond b (who_with_id (knowing domain name) is_group (Name name)) None) ((bytes_eq-Decides domain domain).1 refl) ∙ found.1;
-    }
-
--- a special identifier is known everywhere
-special_found : (known : Known) (is_group : Bool) (word : List ℕ) (written : WrittenWho) → special_of word ≡ Some written → who_of_written known is_group written ≢ None
-special_found known is_group word written e lost = go (bytes_eq word (codes "OWNER")) (bytes_eq word (codes "GROUP")) (bytes_eq word (codes "EVERYONE")) e
-  where
-    lost_too : (w : WrittenWho) → w ≡ written → who_of_written known is_group w ≡ None
-    lost_too w same = ap (who_of_written known is_group) same ∙ lost
-
-    go : (o g v : Bool) → cond o (Some form.Owner) (cond g (Some form.Group) (cond v (Some form.Everyone) None)) ≡ Some written → ⊥
-    go true g v e = let none : Some one.Owner ≡ None = lost_too form.Owner (cc) in cc
-    go false true v e = let none : Some one.Group ≡ None = lost_too form.Group (cc) in cc
-    go false false true e = let none : Some one.Everyone ≡ None = lost_too form.Everyone (cc) in cc
-    go false false false e = cc
-
-name_at_somewhere : (is_group : Bool) (name domain : List ℕ) (written : WrittenWho) → name_at (written_id name) domain ≡ Some written → IsKnownSomewhere is_group written
-name_at_somewhere is_group name domain written e = go (written_id name) refl e
-  where
-    go : (w : Option Written) → written_id name ≡ w → name_at w domain ≡ Some written → IsKnownSomewhere is_group written
-    go None is e = absurd (cc)
-    go (Some (Number n)) is e = absurd (cc)
-    go (Some (Name n)) is e =
-        let choice = cond_some (has_domain_shape domain) (form.At n domain) written e in
-        let writes = name_says name n is in
-        subst (IsKnownSomewhere is_group) choice.1 (at_somewhere is_group n domain (ap has_name_shape (sym writes.1) ∙ writes.0) choice.0)
-
-who_somewhere : (known : Known) (is_group : Bool) (written : WrittenWho) → who_of_written known is_group written ≡ None
-    → (texts : List (List ℕ)) → who_of_parts texts ≡ Some written → IsKnownSomewhere is_group written
-who_somewhere known is_group written lost [] e = absurd (cc)
-who_somewhere known is_group written lost (id ∷ []) e = go (written_id id) refl e
-  where
-    go : (w : Option Written) → written_id id ≡ w → option_map (λ written. form.Id written) w ≡ Some written → IsKnownSomewhere is_group written
-    go None is e = absurd (cc)
-    go (Some w) is e =
-        let same : form.Id w ≡ written = cc in
-        subst (IsKnownSomewhere is_group) same (id_somewhere known is_group id w is (ap (who_of_written known is_group) same ∙ lost))
-who_somewhere known is_group written lost (word ∷ [] ∷ []) e = absurd (special_found known is_group word written e lost)
-who_somewhere known is_group written lost (name ∷ (byte ∷ bytes) ∷ []) e = name_at_somewhere is_group name (byte ∷ bytes) written e
-who_somewhere known is_group written lost (name ∷ [] ∷ more ∷ rest) e = absurd (cc)
-who_somewhere known is_group written lost (name ∷ (byte ∷ bytes) ∷ more ∷ rest) e = absurd (cc)
-
--- a look-up that reports the name to be unknown finds nobody
-is_lost : (found : Option Who) (ace_for : Who → Nfsace4) → (or_fault UnknownName found >>= (λ who. refuse_idle (ace_for who))) ≡ Err UnknownName → found ≡ None
-is_lost None ace_for e = refl
-is_lost (Some who) ace_for e = absurd (effect_fault (ace_for who) UnknownName unknown_not_idle e)
 
 written_elsewhere : (known : Known) (piece : List ℕ) → piece_value known piece ≡ Err UnknownName → (other : Known) × (fault_of other ≡ None) × IsWritten other piece
 written_elsewhere known piece e =
-    let before = shaped_before known piece UnknownName not_unknown e in
-    let shape = before.0 in
-    let is_group = has shape.flags identifier_group in
-    let ace_for : Who → Nfsace4 = λ who. ace_of shape.kind shape.flags who shape.mask in
-    let lost = is_lost (who_of_written known is_group shape.written) ace_for before.1 in
-    let there = who_somewhere known is_group shape.written lost (split_at_byte at_sign shape.fields.who) shape.written_is in
-    let written : Parts there.known piece (ace_for there.who) = record { shape = shape; who = there.who; who_is = there.found; made = refl } in
-    (there.known, there.faultless, (ace_for there.who, ace_of_parts there.known piece (ace_for there.who) written))
+    let (shape, is) = shaped_before known piece UnknownName not_unknown e in
+    let lost = of_first UnknownName (who_in (names_in_domain known) shape) (λ who. refuse_idle (ace_for shape who))
+    (λ who. effect_fault (ace_for shape who) UnknownName unknown_not_idle) is in
+    let there = who_somewhere known (has shape.flags identifier_group) shape.fields.who lost in
+    let ace = ace_for shape there.who in
+    (there.known, there.faultless, (ace, ace_of_parts there.known piece ace (record { shape = shape; who = there.who; who_is = there.who_is; made = refl })))
 
 -- ---- the laws
 
@@ -241,7 +249,7 @@ by_fault : (known : Known) (piece : List ℕ) → ¬ IsWritten known piece → (
 by_fault known piece none = go (piece_value known piece) refl
   where
     go : (r : Result Nfsace4 PieceFault) → piece_value known piece ≡ r → (fault : PieceFault) × (piece_value known piece ≡ Err fault)
-    go (Ok ace) e = absurd (none (ace, ace_of_parts known piece ace (parts_of known piece ace e).0))
+    go (Ok ace) e = absurd (none (ace, ace_of_parts known piece ace (parts_of (names_in_domain known) piece ace e).0))
     go (Err fault) e = (fault, e)
 
 pub no_shape : (known : Known) (piece : List ℕ) → (piece_value known piece ≡ Err Syntax) ↔ HasNoShape piece

@@ -1,44 +1,42 @@
 -- The printed text of a list spells its entries.
-use Rattle.std.proofs.Common.{◌≡◌, ℕ, ◌≤◌, ◌<◌, Bool, true, false, cond, not, ◌&&◌, ◌||◌, List, [], ◌∷◌, ◌++◌}
-use Rattle.std.proofs.Common.{length, map, Option, Some, None, option_map, Ok, refl, sym, ap, subst, ◌∙◌}
-use Rattle.std.proofs.Common.{arith, codes, decimal, length-append, nat_le, ◌==◌, bytes_eq, eqb-true}
-use Rattle.std.specs.List.{All, AllByRecursion, join_with_byte, list_all}
+use Rattle.std.proofs.Common.{◌≡◌, ℕ, ◌≤◌, ◌<◌, Bool, true, false, not, ◌&&◌, ◌||◌, List, [], ◌∷◌, ◌++◌}
+use Rattle.std.proofs.Common.{length, map, Option, Some, None, Result, Ok, refl, sym, ap, ◌∙◌, inl, inr}
+use Rattle.std.proofs.Common.{arith, codes, decimal, length-append, eqb-true}
+use Rattle.std.specs.List.{All, AllByRecursion, flat_map, join_with_byte}
 use Rattle.std.specs.Char.{is_ascii_digit}
 use Rattle.std.proofs.lemmas.Bool.Decides.{nat_tests}
-use Rattle.std.proofs.lemmas.Fmt.{decimal_is_IsNumeral}
 use Rattle.std.proofs.lemmas.List.Elements.{All-nil, All-head, All-tail, All-cons, All-append, All-weaker}
-use Rattle.std.proofs.lemmas.List.Splits.{slice_split_at, slice_split_none}
-use Rattle.std.proofs.lemmas.List.Sums.{AllPass-from_list_all}
-use Rattle.std.proofs.lemmas.Slice.Eq.{bytes_eq-Decides}
-use Rattle.acl_names.specs.declared.limits.TheConstants.{MAX_NAME_LEN, MAX_DOMAIN_LEN, MAX_ID}
-use Rattle.acl_names.specs.Bytes.{colon, at_sign}
+use Rattle.acl_names.specs.declared.limits.TheConstants.{MAX_ID}
+use Rattle.acl_names.specs.Bytes.{colon, comma, newline, at_sign}
 use Rattle.acl_names.specs.Bits.{has, without, ◌∩◌}
 use Rattle.acl_names.specs.Directory.{Known, NamesReadBack, uid_of, gid_of, user_name, group_name}
-use Rattle.acl_names.specs.Ids.{Written, Number, Name, id_of_written, ReadBack, has_domain_shape, has_name_shape, stands_in_domain, continues_name, begins_name}
+use Rattle.acl_names.specs.Ids.{ReadBack, stands_in_domain, continues_name}
 use Rattle.acl_names.specs.Letters.{letters_text}
 use Rattle.acl_names.specs.ListText.{PiecesSay, Spells}
-use Rattle.acl_names.specs.Pieces.{parts}
-use Rattle.acl_names.proofs.BitSets.{has-and, has-or, has-without, has-zero, same_bits}
-use Rattle.acl_names.proofs.Decimals.{digits_model}
+use Rattle.acl_names.specs.Names.{Names}
 use Rattle.acl_names.specs.Plain.{is_field_byte, IsField, IsPlain}
+use Rattle.acl_names.proofs.BitSets.{has-and, has-or, has-without, has-zero, same_bits}
 use Rattle.acl_names.proofs.Fields.{fields_again, joined_plain, tested_field, name_byte_in_field, digit_in_field}
-use Rattle.acl_names.proofs.IdTexts.{and_second, written_name, written_decimal}
+use Rattle.acl_names.proofs.IdTexts.{decimal_read}
 use Rattle.acl_names.proofs.LettersAgain.{letters_again}
 use Rattle.acl_names.proofs.PlainJoined.{IsPlainPiece, pieces_of_joined}
 use Rattle.acl_names.proofs.PlainLines.{IsMark, nothing, pieces_of_lines}
 use Rattle.acl_nfs4.specs.Ace.{Nfsace4, IsAce, ace_of, flags_for}
-use Rattle.acl_nfs4.specs.AceText.{WrittenWho, as_fields, type_of, written_who, who_of_parts, name_at, who_with_id, who_of_written, piece_value}
-use Rattle.acl_nfs4.specs.AceText as form
+use Rattle.acl_nfs4.specs.AceFields.{as_fields, type_of}
+use Rattle.acl_nfs4.specs.AceShapes.{WritesId}
+use Rattle.acl_nfs4.specs.AceText.{names_in_domain, piece_value}
+use Rattle.acl_nfs4.specs.Acl.{AreAces}
 use Rattle.acl_nfs4.specs.Flags.{identifier_group}
 use Rattle.acl_nfs4.specs.Letters.{flag_table, mask_table}
-use Rattle.acl_nfs4.specs.PrintedText.{type_text, named_text, who_text, ace_text, aces_text, fields_text, short_ace, short_text, short_who, HaveIds}
+use Rattle.acl_nfs4.specs.NamedAces.{ace_by, who_by}
+use Rattle.acl_nfs4.specs.PrintedText.{type_text, named_text, who_text, ace_text, aces_text, fields_text, HaveIds}
 use Rattle.acl_nfs4.specs.Who.{HasId, flags_of_who, is_named_group}
-use Rattle.acl_nfs4.specs.Acl.{AreAces}
 use Rattle.acl_nfs4.specs.declared.limits.TheConstants.{MAX_ACES}
 use Rattle.acl_nfs4.specs.declared.ace.AceType.{AceType}
 use Rattle.acl_nfs4.specs.declared.ace.AceType.TheVariants.{Allow, Deny, Audit, Alarm}
 use Rattle.acl_nfs4.specs.declared.who.Who.{Who}
 use Rattle.acl_nfs4.specs.declared.who.Who.TheVariants.{Owner, Group, Everyone, User, NamedGroup}
+use Rattle.acl_nfs4.proofs.DomainLemmas.{decimal_bytes, domain_bytes, name_bytes, named_read}
 use Rattle.acl_nfs4.proofs.LetterLemmas.{flag_table_is, mask_table_is, flags-field, mask-field}
 use Rattle.acl_nfs4.proofs.ReadLemmas.{IsRead, value_of_parts, refuse_idle_said}
 use Rattle.acl_nfs4.proofs.MaskBits.{contains-one, lacks-one}
@@ -53,59 +51,6 @@ type_field Alarm = tested_field (codes "L") refl
 
 domain_byte_in_field : (byte : ℕ) → stands_in_domain byte ≡ true → is_field_byte byte ≡ true
 domain_byte_in_field byte is = grind (arith, nat_tests)
-
-domain_byte_no_at : (byte : ℕ) → stands_in_domain byte ≡ true → (byte == at_sign) ≡ false
-domain_byte_no_at byte is = grind (arith, nat_tests)
-
-name_byte_no_at : (byte : ℕ) → continues_name byte ≡ true → (byte == at_sign) ≡ false
-name_byte_no_at byte is = grind (arith, nat_tests)
-
-digit_no_at : (byte : ℕ) → is_ascii_digit byte ≡ true → (byte == at_sign) ≡ false
-digit_no_at byte is = grind (arith, nat_tests)
-
--- the bytes of a name, of a domain, of a decimal
-name_bytes : (name : List ℕ) → has_name_shape name ≡ true → All (λ byte. continues_name byte ≡ true) name
-name_bytes [] shaped = absurd (cc)
-name_bytes (c ∷ cs) shaped =
-    AllPass-from_list_all continues_name (c ∷ cs)
-    (and_second (nat_le 1 (length (c ∷ cs)) && nat_le (length (c ∷ cs)) MAX_NAME_LEN && begins_name c) (list_all continues_name (c ∷ cs)) shaped)
-
-domain_bytes : (domain : List ℕ) → has_domain_shape domain ≡ true → All (λ byte. stands_in_domain byte ≡ true) domain
-domain_bytes domain shaped =
-    AllPass-from_list_all stands_in_domain domain
-    (and_second (nat_le 1 (length domain) && nat_le (length domain) MAX_DOMAIN_LEN) (list_all stands_in_domain domain) shaped)
-
-decimal_bytes : (id : ℕ) → id ≤ MAX_ID → All (λ byte. is_ascii_digit byte ≡ true) (decimal id)
-decimal_bytes id small =
-    let numeral = decimal_is_IsNumeral id (omega arith) in
-    AllPass-from_list_all is_ascii_digit (decimal id) (digits_model.from (decimal id) numeral.0.1)
-
--- a name in the domain is read again
-pub at_again : (name domain : List ℕ) → has_name_shape name ≡ true → has_domain_shape domain ≡ true
-    → who_of_parts (name ∷ domain ∷ []) ≡ Some (form.At name domain)
-at_again name [] shaped domain_shaped = absurd (cc)
-at_again name (byte ∷ bytes) shaped domain_shaped =
-    ap (λ written. name_at written (byte ∷ bytes)) (written_name name shaped)
-    ∙ ap (λ b. cond b (Some (form.At name (byte ∷ bytes))) None) domain_shaped
-
-pub parts_at : (name domain : List ℕ) → has_name_shape name ≡ true → has_domain_shape domain ≡ true → parts at_sign (name ++ at_sign ∷ domain) ≡ name ∷ domain ∷ []
-parts_at name domain shaped domain_shaped =
-    slice_split_at (λ x. x == at_sign) name at_sign domain
-    (All-weaker (λ byte. continues_name byte ≡ true) (λ byte. (byte == at_sign) ≡ false) name_byte_no_at name (name_bytes name shaped)) refl
-    ∙ ap (λ rest. name ∷ rest)
-    (slice_split_none (λ x. x == at_sign) domain
-    (All-weaker (λ byte. stands_in_domain byte ≡ true) (λ byte. (byte == at_sign) ≡ false) domain_byte_no_at domain (domain_bytes domain domain_shaped)))
-
--- a text of one part
-pub parts_name : (name : List ℕ) → has_name_shape name ≡ true → parts at_sign name ≡ name ∷ []
-parts_name name shaped =
-    slice_split_none (λ x. x == at_sign) name
-    (All-weaker (λ byte. continues_name byte ≡ true) (λ byte. (byte == at_sign) ≡ false) name_byte_no_at name (name_bytes name shaped))
-
-pub parts_digits : (text : List ℕ) → All (λ byte. is_ascii_digit byte ≡ true) text → parts at_sign text ≡ text ∷ []
-parts_digits text digits =
-    slice_split_none (λ x. x == at_sign) text
-    (All-weaker (λ byte. is_ascii_digit byte ≡ true) (λ byte. (byte == at_sign) ≡ false) digit_no_at text digits)
 
 -- ---- an entry's flags and mask are those of its parts
 
@@ -159,9 +104,6 @@ type_again Deny = refl
 type_again Audit = refl
 type_again Alarm = refl
 
-at_most : (a b : ℕ) → a ≤ b → nat_le a b ≡ true
-at_most a b h = grind (arith, nat_tests)
-
 pub decimal_field : (id : ℕ) → id ≤ MAX_ID → IsField (decimal id)
 decimal_field id small = All-weaker (λ byte. is_ascii_digit byte ≡ true) (λ byte. is_field_byte byte ≡ true) digit_in_field (decimal id) (decimal_bytes id small)
 
@@ -176,74 +118,83 @@ are_printed aces are have = λ k d inside. record {
   has_id = have k d inside;
 }
 
-module _ (known : Known) where
-  -- a who that is read as this one
-  pub record ReadsAs (text : List ℕ) (is_group : Bool) (who : Who) : Type 0 where
-    pub written : WrittenWho
-    pub written_is : written_who text ≡ Some written
-    pub who_is : who_of_written known is_group written ≡ Some who
+-- a list of entries, each of which is printed as a plain piece that says it
+module _ {F : Type 0} (value_of : List ℕ → Result Nfsace4 F) (text_of : Nfsace4 → List ℕ)
+    (again : (ace : Nfsace4) → IsPrinted ace → (value_of (text_of ace) ≡ Ok ace) × IsPlainPiece (text_of ace)) where
+  each_again : (aces : List Nfsace4) → All IsPrinted aces → PiecesSay value_of (map text_of aces) aces
+  each_again [] are = refl
+  each_again (ace ∷ aces) are = rw ((again ace (All-head IsPrinted ace aces are)).0, each_again aces (All-tail IsPrinted ace aces are)) refl
 
-  -- a decimal is read as the one who has this id
-  pub decimal_again : (id_of : List ℕ → Option ℕ) (is_group : Bool) (tag : ℕ → Who) (id : ℕ) → id ≤ MAX_ID
-      → ((written : Written) → who_with_id known is_group written ≡ option_map tag (id_of_written id_of written))
-      → ReadsAs (decimal id) is_group (tag id)
-  decimal_again id_of is_group tag id small looks_up = record {
-    written = form.Id (Number id);
-    written_is = ap who_of_parts (parts_digits (decimal id) (decimal_bytes id small)) ∙ ap (option_map (λ written. form.Id written)) (written_decimal id small);
-    who_is = looks_up (Number id) ∙ ap (λ b. option_map tag (cond b (Some id) None)) (at_most id MAX_ID small);
+  each_piece : (aces : List Nfsace4) → All IsPrinted aces → All IsPlainPiece (map text_of aces)
+  each_piece [] are = All-nil IsPlainPiece
+  each_piece (ace ∷ aces) are =
+      All-cons IsPlainPiece (text_of ace) (map text_of aces) (again ace (All-head IsPrinted ace aces are)).1 (each_piece aces (All-tail IsPrinted ace aces are))
+
+  abbrev IsLine : Nfsace4 → Type 0
+  IsLine ace = (0 < length (text_of ace)) × IsPlain (text_of ace) × IsMark []
+
+  line_is : (ace : Nfsace4) → IsPrinted ace → IsLine ace
+  line_is ace is = let piece = (again ace is).1 in (piece.0, piece.1, nothing)
+
+  -- one a line
+  pub lines_spell : (aces : List Nfsace4) → AreAces aces → HaveIds aces → Spells value_of MAX_ACES (flat_map (λ ace. text_of ace ++ newline ∷ []) aces) aces
+  lines_spell aces are have =
+      let printed = are_printed aces are have in
+      record {
+        said = ap (map value_of) (pieces_of_lines text_of (λ _. []) aces (All-weaker IsPrinted IsLine line_is aces printed)) ∙ each_again aces printed;
+        within = are.within;
+      }
+
+  -- with a comma between any two
+  pub joined_pieces : (aces : List Nfsace4) → AreAces aces → HaveIds aces → All IsPlainPiece (map text_of aces)
+  joined_pieces aces are have = each_piece aces (are_printed aces are have)
+
+  pub joined_spell : (aces : List Nfsace4) → AreAces aces → HaveIds aces → Spells value_of MAX_ACES (join_with_byte comma (map text_of aces)) aces
+  joined_spell aces are have = record {
+    said = ap (map value_of) (pieces_of_joined (map text_of aces) (joined_pieces aces are have)) ∙ each_again aces (are_printed aces are have);
+    within = are.within;
   }
 
+module _ (names : Names) where
   -- a field that is read as this who, by the flag that it asks for
   pub record IsWritten (text : List ℕ) (who : Who) : Type 0 where
     pub field : IsField text
-    pub reads : ReadsAs text (is_named_group who) who
+    pub reads : who_by names (is_named_group who) text ≡ Ok who
 
   module _ (text_of : Who → List ℕ) (are_written : (who : Who) → HasId who → IsWritten (text_of who) who) where
     fields_are : (ace : Nfsace4) → HasId ace.who
         → AllByRecursion IsField (type_text ace.kind ∷ letters_text flag_table ace.flags ∷ text_of ace.who ∷ letters_text mask_table ace.mask ∷ [])
     fields_are ace has_id = (type_field ace.kind, (flags-field ace.flags, ((are_written ace.who has_id).field, (mask-field ace.mask, tt))))
 
-    -- an entry is read again
-    pub fields_again_as : (ace : Nfsace4) → IsPrinted ace → piece_value known (fields_text (text_of ace.who) ace) ≡ Ok ace
+    -- an entry is a plain piece, and read again
+    pub fields_again_as : (ace : Nfsace4) → IsPrinted ace → (ace_by names (fields_text (text_of ace.who) ace) ≡ Ok ace) × IsPlainPiece (fields_text (text_of ace.who) ace)
     fields_again_as ace is =
-        let reads = subst (λ (b : Bool). ReadsAs (text_of ace.who) b ace.who) (sym is.read.is_ace.group_flag) (are_written ace.who is.has_id).reads in
-        value_of_parts known (fields_text (text_of ace.who) ace) ace
-        (record {
-          shape = record {
-            fields = record {
-              kind = type_text ace.kind;
-              flags = letters_text flag_table ace.flags;
-              who = text_of ace.who;
-              letters = letters_text mask_table ace.mask;
-            };
-            kind = ace.kind;
-            flags = ace.flags;
-            written = reads.written;
-            mask = ace.mask;
-            cut = ap as_fields (fields_again (type_text ace.kind) (letters_text flag_table ace.flags ∷ text_of ace.who ∷ letters_text mask_table ace.mask ∷ [])
-                (fields_are ace is.has_id));
-            kind_is = type_again ace.kind;
-            flags_are = letters_again flag_table ace.flags flag_table_is is.read.is_ace.known_flags;
-            written_is = reads.written_is;
-            mask_is = letters_again mask_table ace.mask mask_table_is is.read.is_ace.known_mask;
-          };
-          who = ace.who;
-          who_is = reads.who_is;
-          made = ace_of-same ace is.read.is_ace;
-        })
-        ∙ refuse_idle_said ace is.read.effective
-
-    -- and is a plain piece
-    pub fields_piece : (ace : Nfsace4) → IsPrinted ace → IsPlainPiece (fields_text (text_of ace.who) ace)
-    fields_piece ace is =
-        let rest = letters_text flag_table ace.flags ∷ text_of ace.who ∷ letters_text mask_table ace.mask ∷ [] in (
-          omega (arith, length-append (type_text ace.kind) (colon ∷ join_with_byte colon rest)),
-          joined_plain (type_text ace.kind) rest (fields_are ace is.has_id),
+        let rest = letters_text flag_table ace.flags ∷ text_of ace.who ∷ letters_text mask_table ace.mask ∷ [] in
+        let are = fields_are ace is.has_id in (
+          value_of_parts names (fields_text (text_of ace.who) ace) ace
+              (record {
+                shape = record {
+                  fields = record {
+                    kind = type_text ace.kind;
+                    flags = letters_text flag_table ace.flags;
+                    who = text_of ace.who;
+                    letters = letters_text mask_table ace.mask;
+                  };
+                  kind = ace.kind;
+                  flags = ace.flags;
+                  mask = ace.mask;
+                  cut = ap as_fields (fields_again (type_text ace.kind) rest are);
+                  kind_is = type_again ace.kind;
+                  flags_are = letters_again flag_table ace.flags flag_table_is is.read.is_ace.known_flags;
+                  mask_is = letters_again mask_table ace.mask mask_table_is is.read.is_ace.known_mask;
+                };
+                who = ace.who;
+                who_is = ap (λ b. who_by names b (text_of ace.who)) is.read.is_ace.group_flag ∙ (are_written ace.who is.has_id).reads;
+                made = ace_of-same ace is.read.is_ace;
+              })
+              ∙ refuse_idle_said ace is.read.effective,
+          (omega (arith, length-append (type_text ace.kind) (colon ∷ join_with_byte colon rest)), joined_plain (type_text ace.kind) rest are),
         )
-
-    pub each_again : (aces : List Nfsace4) → All IsPrinted aces → PiecesSay (piece_value known) (map (λ ace. fields_text (text_of ace.who) ace) aces) aces
-    each_again [] are = refl
-    each_again (ace ∷ aces) are = rw (fields_again_as ace (All-head IsPrinted ace aces are), each_again aces (All-tail IsPrinted ace aces are)) refl
 
 module _ (known : Known) (apart : NamesReadBack known) where
   -- ---- the who
@@ -267,78 +218,29 @@ module _ (known : Known) (apart : NamesReadBack known) where
   who_field (User uid) has_id = named_field (uid_of known) (user_name known) uid apart.users has_id
   who_field (NamedGroup gid) has_id = named_field (gid_of known) (group_name known) gid apart.groups has_id
 
-  same_domain : bytes_eq known.domain known.domain ≡ true
-  same_domain = (bytes_eq-Decides known.domain known.domain).1 refl
-
-  named_again : (id_of : List ℕ → Option ℕ) (name_of : ℕ → Option (List ℕ)) (is_group : Bool) (tag : ℕ → Who) (id : ℕ) → ReadBack id_of name_of → id ≤ MAX_ID
-      → ((written : Written) → who_with_id known is_group written ≡ option_map tag (id_of_written id_of written))
-      → ReadsAs known (named_text (name_of id) known.domain id) is_group (tag id)
-  named_again id_of name_of is_group tag id back small looks_up = go (name_of id) refl
+  named_writes : (id_of : List ℕ → Option ℕ) (name_of : ℕ → Option (List ℕ)) (id : ℕ) → ReadBack id_of name_of → id ≤ MAX_ID
+      → WritesId known id_of (named_text (name_of id) known.domain id) id
+  named_writes id_of name_of id back small = go (name_of id) refl
     where
-      go : (name : Option (List ℕ)) → name_of id ≡ name → ReadsAs known (named_text name known.domain id) is_group (tag id)
-      go None e = decimal_again known id_of is_group tag id small looks_up
-      go (Some name) e =
-          let reported = back id name e in
-          record {
-            written = form.At name known.domain;
-            written_is = ap who_of_parts (parts_at name known.domain reported.0 apart.domain) ∙ at_again name known.domain reported.0 apart.domain;
-            who_is = ap (λ b. cond b (who_with_id known is_group (Name name)) None) same_domain ∙ looks_up (Name name) ∙ ap (option_map tag) reported.1;
-          }
+      go : (name : Option (List ℕ)) → name_of id ≡ name → WritesId known id_of (named_text name known.domain id) id
+      go None e = inl (decimal_read id small)
+      go (Some name) e = let is = back id name e in inr (name, (is.0, inr (refl, apart.domain)), is.1)
 
-  who_again : (who : Who) → HasId who → ReadsAs known (who_text known who) (is_named_group who) who
-  who_again Owner has_id = record { written = form.Owner; written_is = refl; who_is = refl }
-  who_again Group has_id = record { written = form.Group; written_is = refl; who_is = refl }
-  who_again Everyone has_id = record { written = form.Everyone; written_is = refl; who_is = refl }
+  who_again : (who : Who) → HasId who → who_by (names_in_domain known) (is_named_group who) (who_text known who) ≡ Ok who
+  who_again Owner has_id = refl
+  who_again Group has_id = refl
+  who_again Everyone has_id = refl
   who_again (User uid) has_id =
-      named_again (uid_of known) (user_name known) false (λ id. User id) uid apart.users has_id (λ written. refl)
+      named_read known (λ uid. User uid) (uid_of known) (who_text known (User uid)) uid (named_writes (uid_of known) (user_name known) uid apart.users has_id)
   who_again (NamedGroup gid) has_id =
-      named_again (gid_of known) (group_name known) true (λ id. NamedGroup id) gid apart.groups has_id (λ written. refl)
+      named_read known (λ gid. NamedGroup gid) (gid_of known) (who_text known (NamedGroup gid)) gid (named_writes (gid_of known) (group_name known) gid apart.groups has_id)
 
   -- ---- the entry
 
-  are_written : (who : Who) → HasId who → IsWritten known (who_text known who) who
+  are_written : (who : Who) → HasId who → IsWritten (names_in_domain known) (who_text known who) who
   are_written who has_id = record { field = who_field who has_id; reads = who_again who has_id }
 
   -- ---- the list
 
-  abbrev IsLine : Nfsace4 → Type 0
-  IsLine ace = (0 < length (ace_text known ace)) × IsPlain (ace_text known ace) × IsMark []
-
-  line_is : (ace : Nfsace4) → IsPrinted ace → IsLine ace
-  line_is ace is =
-      let piece = fields_piece known (who_text known) are_written ace is in
-      (piece.0, piece.1, nothing)
-
   pub aces_spelt : (aces : List Nfsace4) → AreAces aces → HaveIds aces → Spells (piece_value known) MAX_ACES (aces_text known aces) aces
-  aces_spelt aces are have =
-      let printed = are_printed aces are have in
-      record {
-        said = ap (map (piece_value known)) (pieces_of_lines (ace_text known) (λ _. []) aces (All-weaker IsPrinted IsLine line_is aces printed))
-            ∙ each_again known (who_text known) are_written aces printed;
-        within = are.within;
-      }
-
--- ---- the short form, whose ids are decimals
-
-module _ (known : Known) where
-  short_written : (who : Who) → HasId who → IsWritten known (short_who who) who
-  short_written Owner has_id = record { field = tested_field (codes "OWNER@") refl; reads = record { written = form.Owner; written_is = refl; who_is = refl } }
-  short_written Group has_id = record { field = tested_field (codes "GROUP@") refl; reads = record { written = form.Group; written_is = refl; who_is = refl } }
-  short_written Everyone has_id = record { field = tested_field (codes "EVERYONE@") refl; reads = record { written = form.Everyone; written_is = refl; who_is = refl } }
-  short_written (User uid) has_id = record { field = decimal_field uid has_id; reads = decimal_again known (uid_of known) false (λ id. User id) uid has_id (λ written. refl) }
-  short_written (NamedGroup gid) has_id = record { field = decimal_field gid has_id; reads = decimal_again known (gid_of known) true (λ id. NamedGroup id) gid has_id (λ written. refl) }
-
-  pieces_of : (aces : List Nfsace4) → All IsPrinted aces → All IsPlainPiece (map short_ace aces)
-  pieces_of [] are = All-nil IsPlainPiece
-  pieces_of (ace ∷ aces) are =
-      All-cons IsPlainPiece (short_ace ace) (map short_ace aces) (fields_piece known short_who short_written ace (All-head IsPrinted ace aces are))
-      (pieces_of aces (All-tail IsPrinted ace aces are))
-
-  pub short_pieces : (aces : List Nfsace4) → AreAces aces → HaveIds aces → All IsPlainPiece (map short_ace aces)
-  short_pieces aces are have = pieces_of aces (are_printed aces are have)
-
-  pub short_spells : (aces : List Nfsace4) → AreAces aces → HaveIds aces → Spells (piece_value known) MAX_ACES (short_text aces) aces
-  short_spells aces are have = record {
-    said = ap (map (piece_value known)) (pieces_of_joined (map short_ace aces) (short_pieces aces are have)) ∙ each_again known short_who short_written aces (are_printed aces are have);
-    within = are.within;
-  }
+  aces_spelt = lines_spell (piece_value known) (ace_text known) (fields_again_as (names_in_domain known) (who_text known) are_written)

@@ -6,7 +6,7 @@ use Rattle.acl_names.specs.Directory.{Known, uid_of, gid_of}
 use Rattle.acl_names.specs.Ids.{decimal_value, has_domain_shape, has_name_shape}
 use Rattle.acl_names.specs.Letters.{letters_of}
 use Rattle.acl_nfs4.specs.Ace.{Nfsace4, flags_for, is_idle}
-use Rattle.acl_nfs4.specs.AceText.{AceFields, fields_of}
+use Rattle.acl_nfs4.specs.AceFields.{AceFields, fields_of}
 use Rattle.acl_nfs4.specs.Flags.{identifier_group}
 use Rattle.acl_nfs4.specs.Letters.{flag_table, mask_table}
 use Rattle.acl_nfs4.specs.PrintedText.{type_text}

@@ -2,7 +2,7 @@
 use Rattle.std.specs.Prelude.{◌≡◌, List, ℕ, ◌∷◌, ◌++◌}
 use Rattle.acl_names.specs.Bytes.{colon}
 use Rattle.acl_names.specs.Plain.{IsField}
-use Rattle.acl_nfs4.specs.AceText.{AceFields}
+use Rattle.acl_nfs4.specs.AceFields.{AceFields}
 
 -- the text begins with these fields, plainly written, and this is the rest of it
 pub record BeginsWithFields (text : List ℕ) (fields : AceFields) (rest : List ℕ) : Type 0 where

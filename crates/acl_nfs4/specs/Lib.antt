@@ -12,6 +12,8 @@ pub mod Marks
 pub mod ModeChangeLaws
 pub mod Letters
 pub mod LetterBits
+pub mod AceFields
+pub mod NamedAces
 pub mod AceText
 pub mod AceViews
 pub mod PrintedText
@@ -19,4 +21,4 @@ pub mod AceShapes
 pub mod Faults
 pub mod ReadFault
 pub mod Front
-pub mod NamedAces
+pub mod WrittenHere

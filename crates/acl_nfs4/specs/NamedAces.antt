@@ -1,8 +1,7 @@
--- What an entry means by the names of any resolver: no name has a domain.
+-- What an entry means by the names of any resolver.
 use Rattle.std.specs.Prelude.{◌≡◌, ◌≤◌, ℕ, List, Bool, true, false, Option, Some, None, Result, Ok}
 use Rattle.std.specs.Prelude.{Err, codes, decimal, if◌then◌else◌, bytes_eq}
 use Rattle.acl_names.specs.Bits.{has}
-use Rattle.acl_names.specs.ListText.{IsFaultOf}
 use Rattle.acl_names.specs.Letters.{letters_of}
 use Rattle.acl_names.specs.Names.{Names, resolved}
 use Rattle.acl_names.specs.Steps.{◌>>=◌, or_fault}
@@ -10,12 +9,9 @@ use Rattle.acl_names.specs.declared.directory.resolve.NameFault.{NameFault}
 use Rattle.acl_names.specs.declared.directory.resolve.NameFault.TheVariants.{Malformed, Unknown}
 use Rattle.acl_names.specs.declared.limits.TheConstants.{MAX_ID}
 use Rattle.acl_nfs4.specs.Ace.{Nfsace4, ace_of}
-use Rattle.acl_nfs4.specs.AceText.{fields_of, refuse_idle, type_of}
+use Rattle.acl_nfs4.specs.AceFields.{fields_of, refuse_idle, type_of}
 use Rattle.acl_nfs4.specs.Flags.{identifier_group}
 use Rattle.acl_nfs4.specs.Letters.{flag_table, mask_table}
-use Rattle.acl_nfs4.specs.ReadFault.{list_fault}
-use Rattle.acl_nfs4.specs.declared.acl.AceFault.{AceFault}
-use Rattle.acl_nfs4.specs.declared.limits.TheConstants.{MAX_ACES}
 use Rattle.acl_nfs4.specs.declared.reading.PieceFault.{PieceFault}
 use Rattle.acl_nfs4.specs.declared.reading.PieceFault.TheVariants.{Syntax, UnknownName}
 use Rattle.acl_nfs4.specs.declared.who.Who.{Who}
@@ -63,7 +59,3 @@ ace_by names piece = do
 pub record ReadNumbers (names : Names) : Type 0 where
   pub uids : (uid : ℕ) → uid ≤ MAX_ID → resolved names.written names.uid (decimal uid) ≡ Ok uid
   pub gids : (gid : ℕ) → gid ≤ MAX_ID → resolved names.written names.gid (decimal gid) ≡ Ok gid
-
--- the fault of the leftmost piece that isn't an entry or is one too many
-abbrev pub IsFaultBy : Names → List ℕ → AceFault → Type 0
-IsFaultBy names text fault = IsFaultOf (ace_by names) MAX_ACES text (list_fault fault)

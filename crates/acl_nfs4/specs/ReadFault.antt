@@ -2,9 +2,11 @@
 use Rattle.std.specs.Prelude.{ℕ, List}
 use Rattle.acl_names.specs.Directory.{Known}
 use Rattle.acl_names.specs.ListText.{IsFaultOf}
+use Rattle.acl_names.specs.Names.{Names}
 use Rattle.acl_names.specs.declared.text.list.ListFault.{ListFault}
 use Rattle.acl_names.specs.declared.text.list.ListFault.TheVariants as list
-use Rattle.acl_nfs4.specs.AceText.{piece_value}
+use Rattle.acl_nfs4.specs.AceText.{names_in_domain}
+use Rattle.acl_nfs4.specs.NamedAces.{ace_by}
 use Rattle.acl_nfs4.specs.declared.acl.AceFault.{AceFault}
 use Rattle.acl_nfs4.specs.declared.acl.AceFault.TheVariants.{Syntax, UnknownName, TooMany}
 use Rattle.acl_nfs4.specs.declared.acl.AceFault.TheVariants.{InheritOnly, Memory}
@@ -21,5 +23,9 @@ list_fault InheritOnly = list.Piece piece.InheritOnly
 list_fault Memory = list.Memory
 
 -- the fault of the leftmost piece that isn't an entry or is one too many
+abbrev pub IsFaultBy : Names → List ℕ → AceFault → Type 0
+IsFaultBy names text fault = IsFaultOf (ace_by names) MAX_ACES text (list_fault fault)
+
+-- by the names of a directory
 abbrev pub IsTextFault : Known → List ℕ → AceFault → Type 0
-IsTextFault known text fault = IsFaultOf (piece_value known) MAX_ACES text (list_fault fault)
+IsTextFault known = IsFaultBy (names_in_domain known)

@@ -13,96 +13,41 @@ use acl_names::{Letter, push_letters as push_letters_of};
 use bitflags::Flags as FlagSet;
 use std::alloc::AllocError;
 
+/// A table of letters and bits: `letter_table![b'r' = 0x1, b'w' = 0x2]`.
+#[macro_export]
+macro_rules! letter_table {
+    ($($letter:literal = $bit:literal),+ $(,)?) => {
+        [$(Letter { letter: $letter, bit: $bit }),+]
+    };
+}
+
 /// The flags, in the order in which they are printed.
-const FLAG_TABLE: [Letter; 7] = [
-    Letter {
-        letter: b'f',
-        bit: 0x1,
-    },
-    Letter {
-        letter: b'd',
-        bit: 0x2,
-    },
-    Letter {
-        letter: b'n',
-        bit: 0x4,
-    },
-    Letter {
-        letter: b'i',
-        bit: 0x8,
-    },
-    Letter {
-        letter: b'S',
-        bit: 0x10,
-    },
-    Letter {
-        letter: b'F',
-        bit: 0x20,
-    },
-    Letter {
-        letter: b'g',
-        bit: 0x40,
-    },
+const FLAG_TABLE: [Letter; 7] = letter_table![
+    b'f' = 0x1,
+    b'd' = 0x2,
+    b'n' = 0x4,
+    b'i' = 0x8,
+    b'S' = 0x10,
+    b'F' = 0x20,
+    b'g' = 0x40,
 ];
 
 /// The bits of a mask, in the order in which they are printed.
-const MASK_TABLE: [Letter; 14] = [
-    Letter {
-        letter: b'r',
-        bit: 0x1,
-    },
-    Letter {
-        letter: b'w',
-        bit: 0x2,
-    },
-    Letter {
-        letter: b'a',
-        bit: 0x4,
-    },
-    Letter {
-        letter: b'x',
-        bit: 0x20,
-    },
-    Letter {
-        letter: b'd',
-        bit: 0x10000,
-    },
-    Letter {
-        letter: b'D',
-        bit: 0x40,
-    },
-    Letter {
-        letter: b't',
-        bit: 0x80,
-    },
-    Letter {
-        letter: b'T',
-        bit: 0x100,
-    },
-    Letter {
-        letter: b'n',
-        bit: 0x8,
-    },
-    Letter {
-        letter: b'N',
-        bit: 0x10,
-    },
-    Letter {
-        letter: b'c',
-        bit: 0x20000,
-    },
-    Letter {
-        letter: b'C',
-        bit: 0x40000,
-    },
-    Letter {
-        letter: b'o',
-        bit: 0x80000,
-    },
-    Letter {
-        letter: b'y',
-        bit: 0x100000,
-    },
+const MASK_TABLE: [Letter; 14] = letter_table![
+    b'r' = 0x1,
+    b'w' = 0x2,
+    b'a' = 0x4,
+    b'x' = 0x20,
+    b'd' = 0x10000,
+    b'D' = 0x40,
+    b't' = 0x80,
+    b'T' = 0x100,
+    b'n' = 0x8,
+    b'N' = 0x10,
+    b'c' = 0x20000,
+    b'C' = 0x40000,
+    b'o' = 0x80000,
+    b'y' = 0x100000,
 ];
 
 /// Reads the letters of a mask, out of `rwaxdDtTnNcCoy` in any order, each at most once; without

@@ -7,6 +7,7 @@ mod ace;
 mod acl;
 mod allowed;
 mod comparison;
+mod domain;
 mod draft;
 mod evaluation;
 mod flags;
@@ -27,11 +28,11 @@ mod printing;
 mod reading;
 mod short;
 mod who;
-mod written_who;
 
 pub use ace::{Ace, AceType};
 pub use acl::{AceFault, Acl4};
 pub use comparison::Difference;
+pub use domain::NamesInDomain;
 pub use flags::Flags;
 pub use inheritance::Kind;
 pub use laws::{
@@ -42,11 +43,12 @@ pub use letters::{push_mask, read_letters};
 pub use limits::{INLINE_ACES, MAX_ACES, limits_in_numbers};
 pub use mask::{Mask, mask_of, rest_of};
 pub use mode_change::Fault4;
-pub use named::{NamedAceReader, named_who, read_aces_by};
+pub use named::named_who;
 pub use owners::Owners;
 pub use pairs::{AboutWho, Compared, difference_by_pairs, difference_with, is_known, stranger};
 pub use printing::push_ace;
-pub use reading::{AceReader, PieceFault, read_aces, refuse_idle};
+pub use reading::{
+    NamedAceReader, PieceFault, read_aces, read_aces_by, read_aces_with, refuse_idle,
+};
 pub use short::push_short_ace;
 pub use who::Who;
-pub use written_who::WrittenWho;

@@ -1,22 +1,24 @@
 //! Reading lists of entries.
 
-ghost use Rattle.std.specs.Prelude.{Some, ◌≡◌, ◌≢◌, ◌≤◌, ℕ, List, length, option_map};
+ghost use Rattle.std.specs.Prelude.{Ok, Some, ◌≡◌, ◌≢◌, ◌≤◌, ℕ, false, List, length, option_map};
 ghost use Rattle.std.specs.Prelude.{IfOk, IfErr, MatchResult};
-ghost use Rattle.acl_names.specs.ListText.{Spells};
+ghost use Rattle.acl_names.specs.ListText.{IsFaultOf, Spells};
 ghost use Rattle.acl_names.specs.Pieces.{pieces};
-ghost use Rattle.acl_nfs4.specs.Ace.{Nfsace4};
-ghost use Rattle.acl_nfs4.specs.AceText.{refuse_idle, fields_of, piece_value, type_of};
+ghost use Rattle.acl_nfs4.specs.Ace.{IsAce, Nfsace4, is_idle};
+ghost use Rattle.acl_nfs4.specs.AceFields.{refuse_idle, fields_of, type_of};
+ghost use Rattle.acl_nfs4.specs.AceText.{piece_value};
 ghost use Rattle.acl_nfs4.specs.AceViews.{view_fields};
-ghost use Rattle.acl_nfs4.specs.ReadFault.{list_fault, IsTextFault};
+ghost use Rattle.acl_nfs4.specs.NamedAces.{ace_by};
+ghost use Rattle.acl_nfs4.specs.ReadFault.{list_fault, IsFaultBy, IsTextFault};
 ghost use Rattle.acl_nfs4.specs.declared.acl.AceFault.TheVariants.{Memory};
 ghost use Rattle.acl_nfs4.specs.declared.limits.TheConstants.{INLINE_ACES};
 
 use crate::front::fields_in_front;
 use crate::letters::{read_flags, read_letters};
 use crate::limits::MAX_ACES;
-use crate::written_who::{WrittenWho, resolve};
-use crate::{Ace, AceFault, AceType, Acl4};
-use acl_names::{Directory, ListFault, Parts, PieceReader, read_list, trim_blanks};
+use crate::named::read_who;
+use crate::{Ace, AceFault, AceType, Acl4, NamesInDomain};
+use acl_names::{Directory, ListFault, Parts, PieceReader, ResolveNames, read_list, trim_blanks};
 use std::alloc::Global;
 
 /// What is wrong with one piece of a text.
@@ -50,23 +52,23 @@ pub(crate) struct AceFields<'a> {
     pub letters: &'a [u8],
 }
 
-/// Reads entries, and resolves their names by a directory.
+/// Reads entries, and resolves their names by `names`.
 #[derive(Drop)]
-pub struct AceReader<'a> {
-    pub directory: &'a Directory,
+pub struct NamedAceReader<'a, N: ResolveNames> {
+    pub names: &'a N,
 }
 
-impl<'a> PieceReader for AceReader<'a> {
+impl<'a, N: ResolveNames> PieceReader for NamedAceReader<'a, N> {
     type Value = Ace;
 
     type Fault = PieceFault;
 
-    ghost value_of = { λ reader. piece_value reader.directory.now };
+    ghost value_of = { λ reader. ace_by (N.names reader.names.now) };
 
-    #[tactic(auto, unfolding(crate::specs::AceText::piece_value))]
+    #[tactic(auto, unfolding(crate::specs::NamedAces::ace_by))]
     fn read(&self, piece: &[u8]) -> Result<Ace, PieceFault> {
         match read_fields(piece) {
-            Some(fields) => value_of_fields(self.directory, fields),
+            Some(fields) => ace_of_fields(self.names, fields),
             None => Err(PieceFault::Syntax),
         }
     }
@@ -75,7 +77,7 @@ impl<'a> PieceReader for AceReader<'a> {
         let Some((fields, rest)) = fields_in_front(text) else {
             return None;
         };
-        let Ok(ace) = value_of_fields(self.directory, fields) else {
+        let Ok(ace) = ace_of_fields(self.names, fields) else {
             return None;
         };
         Some((ace, rest))
@@ -84,18 +86,15 @@ impl<'a> PieceReader for AceReader<'a> {
 
 /// The entry that a piece with these fields means, or its fault.
 #[inline(always)]
-#[tactic(auto, unfolding(crate::specs::AceText::piece_value))]
-fn value_of_fields(directory: &Directory, fields: AceFields<'_>) -> Result<Ace, PieceFault>
+#[tactic(auto, unfolding(crate::specs::NamedAces::ace_by))]
+fn ace_of_fields<N: ResolveNames>(names: &N, fields: AceFields<'_>) -> Result<Ace, PieceFault>
     ensures { (piece : List ℕ) → fields_of piece ≡ Some (view_fields fields.entry)
-        → result ≡ piece_value directory.now piece }
+        → result ≡ ace_by (N.names names.now) piece }
 {
     let kind = read_type(fields.kind).ok_or(PieceFault::Syntax)?;
     let flags = read_flags(fields.flags).ok_or(PieceFault::Syntax)?;
-    let written = WrittenWho::read(fields.who).ok_or(PieceFault::Syntax)?;
     let mask = read_letters(fields.letters).ok_or(PieceFault::Syntax)?;
-    let who = resolve(directory, flags.has_identifier_group(), written).ok_or(
-        PieceFault::UnknownName,
-    )?;
+    let who = read_who(names, flags.has_identifier_group(), fields.who)?;
     refuse_idle(Ace::new(kind, flags, who, mask))
 }
 
@@ -115,7 +114,53 @@ pub fn read_aces(alloc: Global, text: &[u8], directory: &Directory) -> Result<Ac
         → MatchResult result (λ acl. acl ≡ aces) (λ fault. fault ≡ Memory) }
     ensures short { length (pieces text.now) ≤ INLINE_ACES → IfErr result (λ fault. fault ≢ Memory) }
 {
-    match read_list(alloc, &AceReader { directory }, MAX_ACES, text) {
+    read_aces_by(alloc, text, &NamesInDomain { directory })
+}
+
+/// Reads a list as `read_aces` does, but resolves names by `names`: a `who` is `OWNER@`, `GROUP@`,
+/// `EVERYONE@`, or an id or a name as they write it.
+///
+/// The first faulty piece decides the fault: `Syntax`, else `UnknownName`, else `InheritOnly`; a
+/// 129th piece is `TooMany` before it is read. `Memory` means that memory ran out.
+pub fn read_aces_by<N: ResolveNames>(
+    alloc: Global,
+    text: &[u8],
+    names: &N,
+) -> Result<Acl4, AceFault>
+    ensures read { IfOk result (Spells (ace_by (N.names names.now)) MAX_ACES text.now) }
+    ensures fault { IfErr result (IsFaultBy (N.names names.now) text.now) }
+
+    // A text that spells a list is read, unless memory runs out.
+    ensures only { (aces : List Nfsace4)
+        → Spells (ace_by (N.names names.now)) MAX_ACES text.now aces
+        → MatchResult result (λ acl. acl ≡ aces) (λ fault. fault ≡ Memory) }
+    ensures short { length (pieces text.now) ≤ INLINE_ACES → IfErr result (λ fault. fault ≢ Memory) }
+{
+    read_aces_with(alloc, text, &NamedAceReader { names })
+}
+
+/// Reads a list in any form, by a reader of its entries.
+///
+/// The first faulty piece decides the fault; a 129th piece is `TooMany` before it is read. `Memory`
+/// means that memory ran out.
+pub fn read_aces_with<R: PieceReader<Value = Ace, Fault = PieceFault>>(
+    alloc: Global,
+    text: &[u8],
+    reader: &R,
+) -> Result<Acl4, AceFault>
+    // What is read has an effect.
+    requires { (piece : List ℕ) (ace : Nfsace4) → R.value_of reader.now piece ≡ Ok ace
+        → IsAce ace × (is_idle ace ≡ false) }
+    ensures read { IfOk result (Spells (R.value_of reader.now) MAX_ACES text.now) }
+    ensures fault { IfErr result (λ fault. IsFaultOf (R.value_of reader.now) MAX_ACES text.now
+        (list_fault fault)) }
+
+    // A text that spells a list is read, unless memory runs out.
+    ensures only { (aces : List Nfsace4) → Spells (R.value_of reader.now) MAX_ACES text.now aces
+        → MatchResult result (λ acl. acl ≡ aces) (λ fault. fault ≡ Memory) }
+    ensures short { length (pieces text.now) ≤ INLINE_ACES → IfErr result (λ fault. fault ≢ Memory) }
+{
+    match read_list(alloc, reader, MAX_ACES, text) {
         Ok(aces) => Ok(Acl4::from_items(aces)),
         Err(fault) => Err(AceFault::from(fault)),
     }

@@ -1,7 +1,7 @@
 use Rattle.std.proofs.Common.{subst}
 use Rattle.std.proofs.lemmas.Result.{on_ok_weaker}
 use Rattle.acl_nfs4.specs.PrintedText.{HaveIds}
-use Rattle.acl_nfs4.proofs.RoundTrip.{short_spells}
+use Rattle.acl_nfs4.proofs.NamedAgain.{short_spells}
 use Rattle.acl_nfs4.proofs.acl.Acl4.print_short.Goals as goal
 
 pub returns-else-is_err-clause-read_again : goal.returns-else-is_err-clause-read_again

@@ -2,7 +2,7 @@ use Rattle.std.proofs.Common.{sym}
 use Rattle.acl_nfs4.specs.AceViews.{view_fields}
 use Rattle.acl_nfs4.specs.NamedAces.{ace_by}
 use Rattle.acl_nfs4.proofs.FrontLemmas.{front_is}
-use Rattle.acl_nfs4.proofs.named.NamedAceReaderPieceReader.read_front.Goals as goal
+use Rattle.acl_nfs4.proofs.reading.NamedAceReaderPieceReader.read_front.Goals as goal
 
 pub returns : goal.returns
 returns g c =

@@ -1,8 +1,0 @@
-use Rattle.acl_nfs4.proofs.NamedLemmas.{AreAces-by}
-use Rattle.acl_nfs4.proofs.named.read_aces_by.Goals as goal
-
-pub from_items-requires : goal.from_items-requires
-from_items-requires g c = record {
-  are_aces = AreAces-by (g.N.ResolveNames.names c.args.names.now) c.args.text.now c.in-Ok.aces.items c.in-Ok.ensures.read;
-  room = λ _. c.in-Ok.ensures.room;
-}
