@@ -190,6 +190,10 @@ pub record Turn (text : List ℕ) (at newlines read count len : ℕ) : Type 0 wh
   pub are : read ≡ marks text at room
   pub count_is : count ≡ newlines_in (take len (take 64 (drop at text)))
 
+pub turn_at : {text : List ℕ} {at newlines read count len : ℕ} (room : at + 64 ≤ length text) → NoPair text at → newlines_in (take at text) ≡ newlines → read ≡ marks text at room
+    → count ≡ newlines_in (take len (take 64 (drop at text))) → Turn text at newlines read count len
+turn_at room none counted are count_is = record { room = room; none = none; counted = counted; are = are; count_is = count_is }
+
 module _ {text : List ℕ} {at newlines read count len : ℕ} (turn : Turn text at newlines read count len) where
   same_empty : bit_and read (read / 2) ≡ empty text at turn.room
   same_empty = ap (λ m. bit_and m (m / 2)) turn.are

@@ -115,20 +115,26 @@ entry_lines known mask (entry ∷ entries) names ids =
     (one_line known mask entry names (All-head (λ (e : EntryValue). HasId e.tag) entry entries ids))
     (entry_lines known mask entries names (All-tail (λ (e : EntryValue). HasId e.tag) entry entries ids))
 
+-- what holds of each text that begins with the first byte of a tag's word holds of its line
+of_line : {X : Type 0} (test : List ℕ → X) (found : X) → ((rest : List ℕ) → test (117 ∷ rest) ≡ found) → ((rest : List ℕ) → test (103 ∷ rest) ≡ found)
+    → ((rest : List ℕ) → test (109 ∷ rest) ≡ found) → ((rest : List ℕ) → test (111 ∷ rest) ≡ found)
+    → (tag : Tag) (fields : List (List ℕ)) (more : List ℕ) → test (join_with_byte colon (word_text tag ∷ fields) ++ more) ≡ found
+of_line test found user group mask other UserObj [] more = user _
+of_line test found user group mask other UserObj (field ∷ fields) more = user _
+of_line test found user group mask other (User uid) [] more = user _
+of_line test found user group mask other (User uid) (field ∷ fields) more = user _
+of_line test found user group mask other GroupObj [] more = group _
+of_line test found user group mask other GroupObj (field ∷ fields) more = group _
+of_line test found user group mask other (Group gid) [] more = group _
+of_line test found user group mask other (Group gid) (field ∷ fields) more = group _
+of_line test found user group mask other Mask [] more = mask _
+of_line test found user group mask other Mask (field ∷ fields) more = mask _
+of_line test found user group mask other Other [] more = other _
+of_line test found user group mask other Other (field ∷ fields) more = other _
+
 -- none of them is one of a default list
 no_default : (tag : Tag) (fields : List (List ℕ)) (more : List ℕ) → is_default (join_with_byte colon (word_text tag ∷ fields) ++ more) ≡ false
-no_default UserObj [] more = refl
-no_default UserObj (field ∷ fields) more = refl
-no_default (User uid) [] more = refl
-no_default (User uid) (field ∷ fields) more = refl
-no_default GroupObj [] more = refl
-no_default GroupObj (field ∷ fields) more = refl
-no_default (Group gid) [] more = refl
-no_default (Group gid) (field ∷ fields) more = refl
-no_default Mask [] more = refl
-no_default Mask (field ∷ fields) more = refl
-no_default Other [] more = refl
-no_default Other (field ∷ fields) more = refl
+no_default = of_line is_default false (λ rest. refl) (λ rest. refl) (λ rest. refl) (λ rest. refl)
 
 no_default_line : (known : Known) (mask : Option ℕ) (entries : List EntryValue) → list_any is_default (map (entry_line known mask) entries) ≡ false
 no_default_line known mask [] = refl
@@ -163,18 +169,7 @@ lists_again known mask first more names is ids =
 
 -- and no line of it reports for flags
 no_flags_line : (tag : Tag) (fields : List (List ℕ)) (more : List ℕ) → after_prefix (codes "# flags: ") (join_with_byte colon (word_text tag ∷ fields) ++ more) ≡ None
-no_flags_line UserObj [] more = refl
-no_flags_line UserObj (field ∷ fields) more = refl
-no_flags_line (User uid) [] more = refl
-no_flags_line (User uid) (field ∷ fields) more = refl
-no_flags_line GroupObj [] more = refl
-no_flags_line GroupObj (field ∷ fields) more = refl
-no_flags_line (Group gid) [] more = refl
-no_flags_line (Group gid) (field ∷ fields) more = refl
-no_flags_line Mask [] more = refl
-no_flags_line Mask (field ∷ fields) more = refl
-no_flags_line Other [] more = refl
-no_flags_line Other (field ∷ fields) more = refl
+no_flags_line = of_line (after_prefix (codes "# flags: ")) None (λ rest. refl) (λ rest. refl) (λ rest. refl) (λ rest. refl)
 
 pub first-joined : (line : List ℕ) (lines : List (List ℕ)) → LacksNewline line → first_line (joined (line ∷ lines)) ≡ line
 first-joined line [] lacks = first-alone line lacks

@@ -10,7 +10,9 @@ use Rattle.acl_listings.specs.Listing.{Block}
 use Rattle.acl_listings.specs.declared.fault.BlockFault.{BlockFault}
 use Rattle.acl_listings.specs.declared.fault.FileFault.{FileFault}
 use Rattle.acl_listings.specs.declared.fault.FileFault.TheVariants as file
+use Rattle.acl_people.specs.Host.{names_of_host}
 use Rattle.acl_reports.specs.Strangers.{with_stranger}
+use Rattle.acl_reports.specs.declared.blocks.Listing.{Listing}
 use Rattle.acl_reports.specs.declared.stranger.Stranger.{Stranger}
 use Rattle.acl_reports.specs.declared.strangers.Strangers.{Strangers}
 use Rattle.acl_reports.specs.declared.tally.Tally.{Tally}
@@ -51,6 +53,20 @@ pub record Left : Type 0 where
   pub closed : Bool
   -- the blocks that are still to come, if that is known
   pub coming : Option (List Block)
+
+-- of this one, whose reporter does this
+abbrev pub left_of : {T R : Type 0} → (T → List (List ℕ) → List ℕ → Part)
+    → (T → List ℕ → Option Stranger) → Listing T R → Left
+left_of part stranger listing = record {
+  name = listing.name.now;
+  names = names_of_host listing.host.now;
+  part = part listing.reporter;
+  stranger = stranger listing.reporter;
+  tally = listing.counts.tally;
+  strangers = listing.counts.strangers;
+  closed = listing.closed;
+  coming = listing.blocks.coming;
+}
 
 abbrev pub items_left : Left → List (List ℕ) → List Block → List Item
 items_left left earlier blocks = items_after left.part earlier blocks

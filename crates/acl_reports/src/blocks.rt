@@ -1,11 +1,9 @@
 //! Reporting on a listing, block by block.
 ghost use Rattle.std.specs.Prelude.{◌≡◌, ◌+◌, ◌++◌, ◌∷◌, ◌⊎◌, ℕ, IfErr, IfOk, List, [], OnErr};
 ghost use Rattle.std.specs.Prelude.{OnOk, Option, codes, decimal};
-ghost use Rattle.std.specs.Bool.{MatchBool};
 ghost use Rattle.acl_cli.specs.Commands.{FrontWentOut, NothingWentOut, WentOut};
 ghost use Rattle.acl_cli.specs.ErrorOutput.{line_of_words};
 ghost use Rattle.acl_cli.specs.Failures.{failed_write};
-ghost use Rattle.acl_listings.specs.Cursor.{HandsOut, IsOver};
 ghost use Rattle.acl_names.specs.Shown.{shown};
 ghost use Rattle.acl_people.specs.Host.{names_of_host};
 ghost use Rattle.acl_reports.specs.Listed.{AnswersNaming, BeginsNaming, IsFaultLine};
@@ -150,18 +148,6 @@ fn report_block<'n, T: BlockReporter>(
 }
 
 impl<'n, 't, T: BlockReporter + Drop, R: Read + Drop> Listing<'n, 't, T, R> {
-    /// Goes to the next block; false if there is none.
-    fn advance(&mut self) -> Result<bool, Failure<'n>>
-        ensures name { self.new.name ≡ self.old.name }
-        ensures rest { OnOk result (self.new ≡ record self.old { blocks = self.new.blocks }) }
-        ensures block { IfOk result (λ some. MatchBool some
-            (HandsOut self.old.blocks.coming self.new.blocks.block self.new.blocks.coming)
-            (IsOver self.old.blocks.coming)) }
-        ensures failed { IfErr result (IsListingFailure self.old.name.now) }
-    {
-        advance(self.name, &mut self.blocks)
-    }
-
     /// Reports on the current block.
     fn report_here(
         &mut self,
@@ -216,42 +202,17 @@ impl<'n, 't, T: BlockReporter + Drop, R: Read + Drop> Listing<'n, 't, T, R> {
 }
 
 impl<'n, 't, T: BlockReporter + Drop, R: Read + Drop> Reporting<'n> for Listing<'n, 't, T, R> {
-    ghost use Rattle.acl_people.specs.Host.{names_of_host};
     ghost use Rattle.acl_reports.specs.Reporting.{BeginsOf, EndsOf, IsListingFailure};
-    ghost use Rattle.acl_reports.specs.Reporting.{ReportsOf};
+    ghost use Rattle.acl_reports.specs.Reporting.{ReportsOf, left_of};
 
-    ghost Reports = { λ listing. ReportsOf (T.Stands listing.reporter) (record {
-      name = listing.name.now;
-      names = names_of_host listing.host.now;
-      part = T.part listing.reporter;
-      stranger = T.stranger listing.reporter;
-      tally = listing.counts.tally;
-      strangers = listing.counts.strangers;
-      closed = listing.closed;
-      coming = listing.blocks.coming;
-    }) };
+    ghost Reports = { λ listing. ReportsOf (T.Stands listing.reporter)
+        (left_of T.part T.stranger listing) };
 
-    ghost Begins = { λ listing. BeginsOf (T.Stands listing.reporter) (record {
-      name = listing.name.now;
-      names = names_of_host listing.host.now;
-      part = T.part listing.reporter;
-      stranger = T.stranger listing.reporter;
-      tally = listing.counts.tally;
-      strangers = listing.counts.strangers;
-      closed = listing.closed;
-      coming = listing.blocks.coming;
-    }) };
+    ghost Begins = { λ listing. BeginsOf (T.Stands listing.reporter)
+        (left_of T.part T.stranger listing) };
 
-    ghost Ends = { λ listing. EndsOf (T.Stands listing.reporter) (record {
-      name = listing.name.now;
-      names = names_of_host listing.host.now;
-      part = T.part listing.reporter;
-      stranger = T.stranger listing.reporter;
-      tally = listing.counts.tally;
-      strangers = listing.counts.strangers;
-      closed = listing.closed;
-      coming = listing.blocks.coming;
-    }) };
+    ghost Ends = { λ listing. EndsOf (T.Stands listing.reporter)
+        (left_of T.part T.stranger listing) };
 
     ghost Fails = { λ listing. IsListingFailure listing.name.now };
 
@@ -264,7 +225,7 @@ impl<'n, 't, T: BlockReporter + Drop, R: Read + Drop> Reporting<'n> for Listing<
         if self.closed {
             return Ok(false);
         }
-        if self.advance()? {
+        if advance(self.name, &mut self.blocks)? {
             self.report_here(alloc, out, beside)?;
             return Ok(true);
         }

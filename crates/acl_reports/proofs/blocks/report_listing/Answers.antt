@@ -4,7 +4,7 @@ use Rattle.std.specs.Io.KnownBytes.{Appends}
 use Rattle.acl_cli.specs.Commands.{FrontWentOut}
 use Rattle.acl_people.specs.Host.{names_of_host}
 use Rattle.acl_reports.specs.Listed.{BeginsNaming}
-use Rattle.acl_reports.specs.Reporting.{BeginsOf, Left}
+use Rattle.acl_reports.specs.Reporting.{BeginsOf, Left, left_of}
 use Rattle.acl_reports.proofs.BlocksLemmas.{answers_listing, begins_listing, begins_reported, begun_nothing, ended, front_out}
 use Rattle.acl_reports.proofs.blocks.report_listing.Goals as goal
 
@@ -45,17 +45,7 @@ returns-then-listing-clause-answered g c =
     let names = names_of_host c.args.host.now in
     let bytes = g.R.Read.remaining c.args.reader in
     let (text, said, reported, went, reports, some_is) = c.in_ok-report_each.ensures.written in
-    let last = c.report_each.new.reporting in
-    let left : Left = record {
-      name = last.name.now;
-      names = names_of_host last.host.now;
-      part = g.T.BlockReporter.part last.reporter;
-      stranger = g.T.BlockReporter.stranger last.reporter;
-      tally = last.counts.tally;
-      strangers = last.counts.strangers;
-      closed = last.closed;
-      coming = last.blocks.coming;
-    } in
+    let left : Left = left_of g.T.BlockReporter.part g.T.BlockReporter.stranger c.report_each.new.reporting in
     let ends = c.in_ok-report_each.ensures.ends c.ending.result (λ earlier stands. ended left earlier c.ending.result c.if-listing.true c.ending.ensures) [] c.requires in
     record {
       answer = record { text = text; beside = said; ending = c.ending.result };

@@ -8,29 +8,25 @@ use Rattle.acl_listing_queries.specs.WhoSteps.{IsKept, kept_at}
 use Rattle.acl_listing_queries.proofs.AnswersLemmas.{each_kept, now_kept, path_there, read_stranger, same_lines, same_stranger}
 use Rattle.acl_listing_queries.proofs.who.answers.Answers.find.Goals as goal
 
-pub returns-then-is_of-clause-found : goal.returns-then-is_of-clause-found
-returns-then-is_of-clause-found c = λ right.
+pub returns-then-is_of : goal.returns-then-is_of
+returns-then-is_of c =
+    let was = c.args.self.now in
+    let place = c.place_for_text-place.result in
     let text = c.args.text.now in
     let lines = c.path_and_lines.result.1.now in
     let some : is_some c.path_and_lines.result.0 ≡ true = search rules in
     let path = path_there (λ path. path.now) c.path_and_lines.result.0 (path_of text) c.path_and_lines.ensures.path some in
     let short : length text ≤ MAX_BLOCK = search rules in
-    let holds : option_map_or (λ kept. bytes_eq kept.lines.items lines) (kept_at c.args.self.now.kept.items c.place_for_text-place.result) false ≡ true = search rules in
-    let (file, reads, at) = same_lines c.args.self.now c.place_for_text-place.result text lines path.0 right c.path_and_lines.ensures.lines short path.1 holds in
-    (file, reads, record { kept = at.kept; there = at.there; are = at.are })
-
-pub returns-then-is_of-clause-right : goal.returns-then-is_of-clause-right
-returns-then-is_of-clause-right c = λ right. record { places = right.places; each = right.each }
-
-pub returns-then-is_of-clause-stranger : goal.returns-then-is_of-clause-stranger
-returns-then-is_of-clause-stranger c = λ right.
-    let text = c.args.text.now in
-    let lines = c.path_and_lines.result.1.now in
-    let some : is_some c.path_and_lines.result.0 ≡ true = search rules in
-    let path = path_there (λ path. path.now) c.path_and_lines.result.0 (path_of text) c.path_and_lines.ensures.path some in
-    let short : length text ≤ MAX_BLOCK = search rules in
-    let holds : option_map_or (λ kept. bytes_eq kept.lines.items lines) (kept_at c.args.self.now.kept.items c.place_for_text-place.result) false ≡ true = search rules in
-    c.stranger_at-self.ensures ∙ same_stranger c.args.self.now c.place_for_text-place.result text lines path.0 right c.path_and_lines.ensures.lines short path.1 holds
+    let holds : option_map_or (λ kept. bytes_eq kept.lines.items lines) (kept_at was.kept.items place) false ≡ true = search rules in
+    record {
+      users = search rules;
+      right = λ right. record { places = right.places; each = right.each };
+      found = λ right.
+          let (file, reads, at) = same_lines was place text lines path.0 right c.path_and_lines.ensures.lines short path.1 holds in
+          (file, reads, record { kept = at.kept; there = at.there; are = at.are });
+      refused = search rules;
+      stranger = λ right. c.stranger_at-self.ensures ∙ same_stranger was place text lines path.0 right c.path_and_lines.ensures.lines short path.1 holds;
+    }
 
 pub returns-then-place-len-clause-right : goal.returns-then-place-len-clause-right
 returns-then-place-len-clause-right c = λ right.

@@ -1,14 +1,17 @@
-use Rattle.std.proofs.Common.{◌≡◌, ◌∙◌, List, ℕ, ap, inr, refl, subst}
-use Rattle.clap.specs.Words.{Row, found_of, rows_of}
+use Rattle.std.proofs.Common.{◌≡◌, ◌∙◌, List, Option, ℕ, ap, inr, refl, subst}
+use Rattle.clap.specs.Words.{Row, Text, found_of, rows_of}
+use Rattle.acl_names.specs.Names.{Names}
+use Rattle.acl_cli.specs.Commands.{Answer}
 use Rattle.acl_cli.proofs.CommandsLemmas.{Comes-as}
 use Rattle.acl_people.specs.Host.{names_of_host}
-use Rattle.acl_reports.specs.Listed.{AnswersNaming, BeginsNaming}
+use Rattle.acl_reports.specs.Listed.{AnswersNaming, BeginsNaming, Part}
 use Rattle.acl_reports.specs.ListingMeaning.{FailsForListing, bytes_named, inputs_of, naming_meaning}
 use Rattle.acl_reports.specs.RulesMeaning.{rules_in}
 use Rattle.acl_reports.specs.Strangers.{stranger_in}
+use Rattle.acl_reports.specs.declared.stranger.Stranger.{Stranger}
 use Rattle.acl_people.specs.Asked.{names_of_people, persons_of}
 use Rattle.acl_people.proofs.AskedLemmas.{persons_again}
-use Rattle.acl_listing_queries.specs.WhoMeaning.{WhoAsked, asking_in, reach_in, who_meaning}
+use Rattle.acl_listing_queries.specs.WhoMeaning.{WhoAnswers, WhoAsked, asking_in, reach_in, who_meaning}
 use Rattle.acl_listing_queries.specs.WhoPart.{Asking, who_part}
 use Rattle.acl_listing_queries.specs.WhoSteps.{question_of}
 use Rattle.acl_listing_queries.proofs.who.command.WhoCliCommand.answer.Goals as goal
@@ -44,13 +47,11 @@ returns g c =
     ∙ ap (λ rules. record { names = names_of_host host; rules = rules; persons = persons; question = asked_for; reach = c.reach_field.result }) c.rules_field.ensures
     ∙ ap (λ reach. record { names = names_of_host host; rules = rules_in rows; persons = persons; question = asked_for; reach = reach }) c.reach_field.ensures in
     let part = naming_meaning files input name (names_of_host host) (who_part reported) (stranger_in host) in
+    let meant : (Is : Text → Names → (List (List ℕ) → List ℕ → Part) → (List ℕ → Option Stranger) → Option (List ℕ) → Answer → Type 0) (answer : Answer) → Is name (names_of_host host) (who_part reported) (stranger_in host) (bytes_named files input name) answer → WhoAnswers Is files input rows answer = λ Is answer is. (asked,
+      subst (λ (name : List ℕ). Is name (names_of_host host) (who_part asking) (stranger_in host) (bytes_named files input name) answer) name_is
+      (subst (λ (asking : Asking). Is name (names_of_host host) (who_part asking) (stranger_in host) (bytes_named files input name) answer) asking_is is)) in
     Comes-as part (who_meaning files input rows) c.report_who.result _ _ _ _ _ _
-    (λ answer is. (asked,
-      subst (λ (name : List ℕ). AnswersNaming name (names_of_host host) (who_part asking) (stranger_in host) (bytes_named files input name) answer) name_is
-      (subst (λ (asking : Asking). AnswersNaming name (names_of_host host) (who_part asking) (stranger_in host) (bytes_named files input name) answer) asking_is is)))
-    (λ answer is. (asked,
-      subst (λ (name : List ℕ). BeginsNaming name (names_of_host host) (who_part asking) (stranger_in host) (bytes_named files input name) answer) name_is
-      (subst (λ (asking : Asking). BeginsNaming name (names_of_host host) (who_part asking) (stranger_in host) (bytes_named files input name) answer) asking_is is)))
+    (meant AnswersNaming) (meant BeginsNaming)
     (λ failure fails. inr (rw c.in_ok-asked.ensures.read refl, inr (inr (subst (λ (name : List ℕ). FailsForListing name failure) name_is fails))))
     (λ none. ap inputs_of name_is ∙ none)
     c.report_who.ensures

@@ -1,12 +1,13 @@
 use Rattle.std.proofs.Common.{◌≡◌, ◌∙◌, List, ℕ, Err, ap, inl, inr, refl, rules, subst}
 use Rattle.clap.specs.Words.{Row, found_of, rows_of}
+use Rattle.acl_cli.specs.Commands.{Answer}
 use Rattle.acl_cli.proofs.CommandsLemmas.{Comes-as, Comes-failed}
 use Rattle.acl_people.specs.Host.{names_of_host}
 use Rattle.acl_people.specs.Person.{Person}
 use Rattle.acl_reports.specs.ListingMeaning.{inputs_of}
 use Rattle.acl_listing_queries.specs.PathWord.{as_listed}
 use Rattle.acl_reports.specs.RulesMeaning.{rules_in}
-use Rattle.acl_listing_queries.specs.WhyMeaning.{AnswersPath, FailsForPath, blocks_named, path_in, path_meaning, why_meaning}
+use Rattle.acl_listing_queries.specs.WhyMeaning.{AnswersPath, FailsForPath, WhyAnswers, blocks_named, path_in, path_meaning, why_meaning}
 use Rattle.acl_listing_queries.specs.WhySteps.{sought_by}
 use Rattle.acl_listing_queries.specs.WhyText.{Sought, WhyAsking}
 use Rattle.acl_listing_queries.proofs.why.command.WhyCliCommand.answer.Goals as goal
@@ -28,31 +29,20 @@ returns g c =
     let same : reported ≡ asked =
     ap (λ (person : Person). record { names = names_of_host host; rules = c.rules_field.result; who = person.who; sought = sought }) c.person.view_is
     ∙ ap (λ rules. record { names = names_of_host host; rules = rules; who = person.who; sought = sought }) c.rules_field.ensures in
+    let meant : (answer : Answer) → AnswersPath reported name path (blocks_named files input name) answer → WhyAnswers files input rows answer = λ answer is. record {
+      host = host;
+      host_is = c.in_ok-host.ensures.opened;
+      person = person;
+      person_is = c.in_ok-person.ensures.read;
+      fits = c.in_ok-sought.ensures.fits;
+      sought = sought;
+      sought_is = c.in_ok-sought.ensures.read;
+      is = subst (λ (name : List ℕ). AnswersPath asked name (path_in rows) (blocks_named files input name) answer) name_is
+          (subst (λ (path : List ℕ). AnswersPath asked name path (blocks_named files input name) answer) path_is
+          (subst (λ (asking : WhyAsking). AnswersPath asking name path (blocks_named files input name) answer) same is));
+    } in
     Comes-as (path_meaning reported files input name path) (why_meaning files input rows) c.report_why.result _ _ _ _ _ _
-    (λ answer is. record {
-      host = host;
-      host_is = c.in_ok-host.ensures.opened;
-      person = person;
-      person_is = c.in_ok-person.ensures.read;
-      fits = c.in_ok-sought.ensures.fits;
-      sought = sought;
-      sought_is = c.in_ok-sought.ensures.read;
-      is = subst (λ (name : List ℕ). AnswersPath asked name (path_in rows) (blocks_named files input name) answer) name_is
-          (subst (λ (path : List ℕ). AnswersPath asked name path (blocks_named files input name) answer) path_is
-          (subst (λ (asking : WhyAsking). AnswersPath asking name path (blocks_named files input name) answer) same is));
-    })
-    (λ answer is. record {
-      host = host;
-      host_is = c.in_ok-host.ensures.opened;
-      person = person;
-      person_is = c.in_ok-person.ensures.read;
-      fits = c.in_ok-sought.ensures.fits;
-      sought = sought;
-      sought_is = c.in_ok-sought.ensures.read;
-      is = subst (λ (name : List ℕ). AnswersPath asked name (path_in rows) (blocks_named files input name) answer) name_is
-          (subst (λ (path : List ℕ). AnswersPath asked name path (blocks_named files input name) answer) path_is
-          (subst (λ (asking : WhyAsking). AnswersPath asking name path (blocks_named files input name) answer) same is));
-    })
+    meant meant
     (λ failure fails. inr (
       c.in_ok-sought.ensures.fits,
       rw c.in_ok-sought.ensures.read refl,
