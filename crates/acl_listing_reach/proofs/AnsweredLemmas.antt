@@ -12,7 +12,11 @@ use Rattle.acl_listings.specs.Block.{path_of}
 use Rattle.acl_listings.specs.Cursor.{HandsOut, IsOver}
 use Rattle.acl_listings.specs.Listing.{Block}
 use Rattle.acl_listings.specs.declared.fault.BlockFault.{BlockFault}
-use Rattle.acl_reports.specs.Listed.{AreSaid, IsSaid, Item, Part, fault_in, items_after, no_blocks, with_item}
+use Rattle.acl_reports.specs.Listed.{AreSaid, IsSaid, Item, Part, counted, fault_in, items_after, no_blocks, with_item, with_stranger_of}
+use Rattle.acl_reports.specs.Strangers.{no_strangers, with_stranger}
+use Rattle.acl_reports.specs.declared.counts.Counts.{Counts}
+use Rattle.acl_reports.specs.declared.stranger.Stranger.{Stranger}
+use Rattle.acl_reports.specs.declared.strangers.Strangers.{Strangers}
 use Rattle.acl_reports.specs.declared.tally.Tally.{Tally}
 use Rattle.acl_listing_changes.specs.Changes.{part_of, unless_repeated}
 use Rattle.acl_listing_changes.specs.RestoreLaws.{text_has}
@@ -100,13 +104,14 @@ said_more name names [] said none item more is = (more, [], is, refl, ap (λ sai
 said_more name names (first ∷ items) said (one, rest, here, all, same) item more is =
     (one, rest ++ more, here, said_more name names items rest all item more is, ap (λ said. said ++ more) same ∙ append_assoc one rest more)
 
-pub answered_more : (name : List ℕ) (names : Names) (items : List Item) (known : List At) (said : List ℕ) (tally : Tally) → AreAnswered name names items known said tally
+pub answered_more : (name : List ℕ) (names : Names) (stranger : List ℕ → Option Stranger) (items : List Item) (known : List At) (said : List ℕ) (counts : Counts)
+    → AreAnswered name names stranger items known said counts
     → (block : Block) (part : Part) (repeated : Bool) (own : Option BlockFault) (letters : List ℕ) → IsPartBy part own letters
     → (known' : List At) → known' ≡ with_path known (path_of block.text) (letters_unless (unless_repeated repeated own) letters)
     → (more said' : List ℕ) → IsSaid name names block (part_of (unless_repeated repeated own)) more → said' ≡ said ++ more
-    → (tally' : Tally) → ((item : Item) → item.block.text ≡ block.text → fault_in item.part ≡ unless_repeated repeated own → tally' ≡ with_item tally item)
-    → AreAnswered name names (items ++ record { block = block; part = unless_faulty (unless_repeated repeated (fault_in part)) part } ∷ []) known' said' tally'
-answered_more name names items known said tally was block part repeated own letters is known' known_is more said' said_is said'_is tally' tally_is =
+    → (counts' : Counts) → counts'.tally ≡ counted counts.tally block.text (unless_repeated repeated own) → counts'.strangers ≡ with_stranger counts.strangers block.line (stranger block.text)
+    → AreAnswered name names stranger (items ++ record { block = block; part = unless_faulty (unless_repeated repeated (fault_in part)) part } ∷ []) known' said' counts'
+answered_more name names stranger items known said counts was block part repeated own letters is known' known_is more said' said_is said'_is counts' tally_is strangers_are =
     let once = by_fault name names block letters repeated part own is in
     let item : Item = record { block = block; part = unless_faulty (unless_repeated repeated (fault_in part)) part } in
     let all : AreSaid name names (items ++ item ∷ []) (said ++ more) = said_more name names items said was.said_are item more (once.said_is more said_is) in
@@ -116,7 +121,10 @@ answered_more name names items known said tally was block part repeated own lett
           ∙ ap (with_path (paths_of items) (path_of block.text)) (sym once.known_is)
           ∙ sym (fold-append with_block [] items (item ∷ []));
       said_are = subst (AreSaid name names (items ++ item ∷ [])) (sym said'_is) all;
-      tally_is = tally_is item refl once.fault_is ∙ ap (λ tally. with_item tally item) was.tally_is ∙ sym (fold-append with_item no_blocks items (item ∷ []));
+      tally_is = tally_is ∙ ap (counted counts.tally block.text) (sym once.fault_is) ∙ ap (λ (tally : Tally). with_item tally item) was.tally_is
+          ∙ sym (fold-append with_item no_blocks items (item ∷ []));
+      strangers_are = strangers_are ∙ ap (λ (strangers : Strangers). with_stranger_of stranger strangers item) was.strangers_are
+          ∙ sym (fold-append (with_stranger_of stranger) no_strangers items (item ∷ []));
     }
 
 -- ---- the blocks that are still to come
@@ -141,34 +149,36 @@ items_over part blocks items earlier None are over = absurd are
 items_over part blocks items earlier (Some left) are over = are ∙ ap (λ blocks. items ++ items_after (part_once part) earlier blocks) over ∙ append-nil items
 
 -- all of them are answered
-pub answered_all : (Stands : List (List ℕ) → Type 0) (part : List (List ℕ) → List ℕ → Part) (name : List ℕ) (names : Names) (coming left : Option (List Block))
-    (known : List At) (said : List ℕ) (tally : Tally) → IsAnsweredTo Stands part name names coming left known said tally → IsOver left
-    → IfSome coming (λ blocks. AreAnswered name names (items_after (part_once part) [] blocks) known said tally)
-answered_all Stands part name names coming left known said tally to over = by coming to.items_are
+pub answered_all : (Stands : List (List ℕ) → Type 0) (part : List (List ℕ) → List ℕ → Part) (stranger : List ℕ → Option Stranger) (name : List ℕ) (names : Names)
+    (coming left : Option (List Block)) (known : List At) (said : List ℕ) (counts : Counts) → IsAnsweredTo Stands part stranger name names coming left known said counts → IsOver left
+    → IfSome coming (λ blocks. AreAnswered name names stranger (items_after (part_once part) [] blocks) known said counts)
+answered_all Stands part stranger name names coming left known said counts to over = by coming to.items_are
   where
     by : (coming : Option (List Block)) → AreItemsTo part coming to.items to.earlier left
-        → IfSome coming (λ blocks. AreAnswered name names (items_after (part_once part) [] blocks) known said tally)
+        → IfSome coming (λ blocks. AreAnswered name names stranger (items_after (part_once part) [] blocks) known said counts)
     by None are = tt
-    by (Some blocks) are = subst (λ items. AreAnswered name names items known said tally) (sym (items_over part blocks to.items to.earlier left are over)) to.answered
+    by (Some blocks) are = subst (λ items. AreAnswered name names stranger items known said counts) (sym (items_over part blocks to.items to.earlier left are over)) to.answered
 
-pub answered_none : (Stands : List (List ℕ) → Type 0) → Stands [] → (part : List (List ℕ) → List ℕ → Part) (name : List ℕ) (names : Names) (coming : Option (List Block))
-    (known : List At) (said : List ℕ) (tally : Tally) → known ≡ [] → said ≡ [] → tally ≡ no_blocks → IsAnsweredTo Stands part name names coming coming known said tally
-answered_none Stands stands part name names coming known said tally known_is said_is tally_is = record {
+pub answered_none : (Stands : List (List ℕ) → Type 0) → Stands [] → (part : List (List ℕ) → List ℕ → Part) (stranger : List ℕ → Option Stranger) (name : List ℕ) (names : Names)
+    (coming : Option (List Block)) (known : List At) (said : List ℕ) (counts : Counts) → known ≡ [] → said ≡ [] → counts.tally ≡ no_blocks → counts.strangers ≡ no_strangers
+    → IsAnsweredTo Stands part stranger name names coming coming known said counts
+answered_none Stands stands part stranger name names coming known said counts known_is said_is tally_is strangers_are = record {
   earlier = [];
   stands = stands;
   items = [];
   items_are = items_begun part coming;
-  answered = record { known_is = known_is; said_are = said_is; tally_is = tally_is };
+  answered = record { known_is = known_is; said_are = said_is; tally_is = tally_is; strangers_are = strangers_are };
   listed = λ path. ap (has_path path) known_is;
 }
 
-pub answered_on : (Old New : List (List ℕ) → Type 0) (part : List (List ℕ) → List ℕ → Part) (name : List ℕ) (names : Names) (coming old new : Option (List Block)) (block : Block)
-    (known known' : List At) (said said' : List ℕ) (tally tally' : Tally) (was : IsAnsweredTo Old part name names coming old known said tally) → HandsOut old block new
+pub answered_on : (Old New : List (List ℕ) → Type 0) (part : List (List ℕ) → List ℕ → Part) (stranger : List ℕ → Option Stranger) (name : List ℕ) (names : Names)
+    (coming old new : Option (List Block)) (block : Block) (known known' : List At) (said said' : List ℕ) (counts counts' : Counts)
+    (was : IsAnsweredTo Old part stranger name names coming old known said counts) → HandsOut old block new
     → ((earlier : List (List ℕ)) → Old earlier → New (earlier ++ block.text ∷ []))
-    → ((earlier : List (List ℕ)) (items : List Item) → Old earlier → AreListed earlier known → AreAnswered name names items known said tally
-    → AreAnswered name names (items ++ record { block = block; part = part_once part earlier block.text } ∷ []) known' said' tally' × AreListed (earlier ++ block.text ∷ []) known')
-    → IsAnsweredTo New part name names coming new known' said' tally'
-answered_on Old New part name names coming old new block known known' said said' tally tally' was hands stands more =
+    → ((earlier : List (List ℕ)) (items : List Item) → Old earlier → AreListed earlier known → AreAnswered name names stranger items known said counts
+    → AreAnswered name names stranger (items ++ record { block = block; part = part_once part earlier block.text } ∷ []) known' said' counts' × AreListed (earlier ++ block.text ∷ []) known')
+    → IsAnsweredTo New part stranger name names coming new known' said' counts'
+answered_on Old New part stranger name names coming old new block known known' said said' counts counts' was hands stands more =
     let both = more was.earlier was.items was.stands was.listed was.answered in
     record {
       earlier = was.earlier ++ block.text ∷ [];

@@ -1,5 +1,5 @@
 -- What was answered of two listings, as an answer about both.
-use Rattle.std.proofs.Common.{◌≡◌, ◌∙◌, ◌++◌, ◌&&◌, not, ℕ, List, [], Option, None, Some, ap, refl, subst, sym}
+use Rattle.std.proofs.Common.{◌≡◌, ◌∙◌, ◌++◌, ◌&&◌, not, ℕ, List, [], Option, None, Some, ap, ap₂, refl, subst, sym}
 use Rattle.std.specs.Prelude.{IfSome}
 use Rattle.acl_cli.specs.Commands.{Answer, FrontWentOut, WentOut}
 use Rattle.acl_cli.specs.ErrorOutput.{ErrorText}
@@ -7,24 +7,29 @@ use Rattle.acl_cli.specs.Reporting.{is_empty}
 use Rattle.acl_cli.specs.declared.command.Ending.{Ending}
 use Rattle.acl_listings.specs.Cursor.{blocks_to_come}
 use Rattle.acl_listings.specs.Listing.{Block}
-use Rattle.acl_reports.specs.Listed.{closing, ending_of, items_after}
+use Rattle.acl_reports.specs.Listed.{ending_of, items_after, last_lines}
+use Rattle.acl_reports.specs.declared.strangers.Strangers.{Strangers}
 use Rattle.acl_reports.specs.declared.tally.Tally.{Tally}
 use Rattle.acl_listing_changes.specs.Changes.{ending_of_both, with_difference}
 use Rattle.acl_listing_reach.specs.AnsweredSteps.{AreAnswered}
-use Rattle.acl_listing_reach.specs.BetweenSteps.{AreTextsBy, IsAnswerBy, IsBegunBy}
+use Rattle.acl_listing_reach.specs.BetweenSteps.{AreTextsBy, IsAnswerBy, IsBegunBy, closing_by}
 use Rattle.acl_listing_reach.specs.Once.{At, part_once}
-use Rattle.acl_listing_reach.specs.ReachAnswer.{IsReachAnswer, IsReachBegun, IsReport, Side, apart_text, paths_in, tally_in}
+use Rattle.acl_listing_reach.specs.ReachAnswer.{IsReachAnswer, IsReachBegun, IsReport, Side, apart_text, closing_in, paths_in, tally_in}
 use Rattle.acl_listing_reach.specs.ReachText.{ReachAsking, report_text}
 use Rattle.acl_listing_reach.specs.Sources.{OfSources, Source, side_of}
 use Rattle.acl_listing_reach.specs.declared.answered.Answered.{Answered}
 
 -- this is answered of a listing
 abbrev pub IsAnsweredSide : Side → Answered → Type 0
-IsAnsweredSide side answered = AreAnswered side.name side.names side.items answered.known answered.said.items answered.tally
+IsAnsweredSide side answered = AreAnswered side.name side.names side.stranger side.items answered.known answered.said.items answered.counts
+
+-- what is said at its end
+closing_as : (side : Side) (answered : Answered) → IsAnsweredSide side answered → closing_by side.name answered.counts ≡ closing_in side
+closing_as side answered is = ap₂ (λ (tally : Tally) (strangers : Strangers). last_lines side.name tally strangers) is.tally_is is.strangers_are
 
 module _ (asking : ReachAsking) (before after : Side) (first second : Answered) (one : IsAnsweredSide before first) (two : IsAnsweredSide after second) where
-  abbrev said : List At → List At → Tally → Tally → List ℕ
-  said known others tally other = first.said.items ++ closing before.name tally ++ second.said.items ++ apart_text known others ++ closing after.name other
+  abbrev said : List At → List At → List ℕ → List ℕ → List ℕ
+  said known others last other = first.said.items ++ last ++ second.said.items ++ apart_text known others ++ other
 
   pub report_of : (text beside : List ℕ) → AreTextsBy asking before.name first after.name second text beside → IsReport asking before after text beside
   report_of text beside texts = record {
@@ -34,24 +39,24 @@ module _ (asking : ReachAsking) (before after : Side) (first second : Answered) 
     second = second.said.items;
     second_are = two.said_are;
     beside_is = texts.beside_is
-        ∙ ap (λ tally. said first.known second.known tally second.tally) one.tally_is
-        ∙ ap (said first.known second.known (tally_in before)) two.tally_is
-        ∙ ap (λ known. said known second.known (tally_in before) (tally_in after)) one.known_is
-        ∙ ap (λ known. said (paths_in before) known (tally_in before) (tally_in after)) two.known_is;
+        ∙ ap (λ last. said first.known second.known last (closing_by after.name second.counts)) (closing_as before first one)
+        ∙ ap (said first.known second.known (closing_in before)) (closing_as after second two)
+        ∙ ap (λ known. said known second.known (closing_in before) (closing_in after)) one.known_is
+        ∙ ap (λ known. said (paths_in before) known (closing_in before) (closing_in after)) two.known_is;
   }
 
   pub answer_of : (answer : Answer) → IsAnswerBy asking before.name first after.name second answer → IsReachAnswer asking before after answer
   answer_of answer is = record {
     report = report_of answer.text answer.beside is.texts;
     ending = is.ending
-        ∙ ap (λ tally. with_difference (asking.asks && not (is_empty answer.text)) (ending_of_both (ending_of tally) (ending_of second.tally))) one.tally_is
+        ∙ ap (λ tally. with_difference (asking.asks && not (is_empty answer.text)) (ending_of_both (ending_of tally) (ending_of second.counts.tally))) one.tally_is
         ∙ ap (λ tally. with_difference (asking.asks && not (is_empty answer.text)) (ending_of_both (ending_of (tally_in before)) (ending_of tally))) two.tally_is;
   }
 
 -- of a listing, if its bytes are known
 abbrev pub IsAnsweredSource : Source → Answered → Type 0
 IsAnsweredSource source answered = IfSome (blocks_to_come 1 source.bytes) (λ blocks.
-    AreAnswered source.name source.names (items_after (part_once source.part) [] blocks) answered.known answered.said.items answered.tally)
+    AreAnswered source.name source.names source.stranger (items_after (part_once source.part) [] blocks) answered.known answered.said.items answered.counts)
 
 module _ (asking : ReachAsking) (before after : Source) (first second : Answered) (one : IsAnsweredSource before first) (two : IsAnsweredSource after second) where
   of_both : (Is : Side → Side → Answer → Type 0) (answer : Answer)

@@ -1,5 +1,5 @@
 -- What the words ask by reach, and what was asked.
-use Rattle.std.proofs.Common.{◌≡◌, ◌∙◌, ◌&&◌, Bool, false, List, None, Ok, Option, Result, ap₂, codes, inl, inr, refl, subst, sym, ℕ}
+use Rattle.std.proofs.Common.{◌≡◌, ◌∙◌, ◌&&◌, Bool, false, List, None, Ok, Option, Result, ap, ap₂, codes, inl, inr, refl, subst, sym, ℕ}
 use Rattle.clap.specs.Words.{Row, Text, first_of}
 use Rattle.acl_cli.proofs.CommandsLemmas.{Comes-as}
 use Rattle.acl_cli.specs.Commands.{Answer, Comes}
@@ -12,12 +12,13 @@ use Rattle.acl_people.specs.People.{asked_in}
 use Rattle.acl_people.specs.Person.{Person}
 use Rattle.acl_reports.specs.Listed.{Part}
 use Rattle.acl_reports.specs.ListingMeaning.{is_input}
+use Rattle.acl_reports.specs.declared.stranger.Stranger.{Stranger}
 use Rattle.acl_listing_changes.specs.ChangeMeaning.{after_in, before_in, is_input_twice}
 use Rattle.acl_listing_reach.specs.CommandSteps.{asked_meaning}
 use Rattle.acl_listing_reach.specs.ReachAnswer.{Side}
 use Rattle.acl_listing_reach.specs.ReachMeaning.{AreAskedAfter, reach_meaning}
 use Rattle.acl_listing_reach.specs.ReachText.{ReachAsking}
-use Rattle.acl_listing_reach.specs.Sources.{OfSources, source_named}
+use Rattle.acl_listing_reach.specs.Sources.{OfSources, Source, source_named}
 
 -- what is said of the names is said of what the words have
 pub twice_of : (before before' after after' : List ℕ) → before ≡ before' → after ≡ after' → (b : Bool) → b ≡ (is_input before && is_input after)
@@ -25,19 +26,22 @@ pub twice_of : (before before' after after' : List ℕ) → before ≡ before' �
 twice_of before before' after after' before_is after_is b is =
     sym (is ∙ ap₂ (λ (one other : List ℕ). is_input one && is_input other) before_is after_is)
 
--- and so is what is answered of the sources of these names
-module _ (Is : ReachAsking → Side → Side → Answer → Type 0) (bytes_of : List ℕ → Option (List ℕ)) (input : Option (List ℕ)) (names other_names : Names) (answer : Answer) where
-  abbrev Answers : ReachAsking → (List (List ℕ) → List ℕ → Part) → (List (List ℕ) → List ℕ → Part) → List ℕ → List ℕ → Type 0
-  Answers asking part other_part before after = OfSources (Is asking) (source_named bytes_of input names part before) (source_named bytes_of input other_names other_part after) answer
+-- a source is the one of this name, if it is answered in the same way
+pub same_source : (bytes_of : List ℕ → Option (List ℕ)) (input : Option (List ℕ)) (names : Names) (part part' : List (List ℕ) → List ℕ → Part) → part ≡ part'
+    → (stranger stranger' : List ℕ → Option Stranger) → stranger ≡ stranger' → (name name' : List ℕ) → name ≡ name'
+    → source_named bytes_of input names part stranger name ≡ source_named bytes_of input names part' stranger' name'
+same_source bytes_of input names part part' part_is stranger stranger' stranger_is name name' name_is =
+    ap (λ (part : List (List ℕ) → List ℕ → Part). source_named bytes_of input names part stranger name) part_is
+    ∙ ap (λ (stranger : List ℕ → Option Stranger). source_named bytes_of input names part' stranger name) stranger_is
+    ∙ ap (λ (name : List ℕ). source_named bytes_of input names part' stranger' name) name_is
 
-  pub answers_as : (reported asked : ReachAsking) → reported ≡ asked → (one one' other other' : List (List ℕ) → List ℕ → Part) → one ≡ one' → other ≡ other'
-      → (before before' after after' : List ℕ) → before ≡ before' → after ≡ after' → Answers reported one other before after → Answers asked one' other' before' after'
-  answers_as reported asked asking_is one one' other other' one_is other_is before before' after after' before_is after_is is =
-      subst (λ (asking : ReachAsking). Answers asking one' other' before' after') asking_is
-      (subst (λ (one : List (List ℕ) → List ℕ → Part). Answers reported one other' before' after') one_is
-      (subst (λ (other : List (List ℕ) → List ℕ → Part). Answers reported one other before' after') other_is
-      (subst (λ (before : List ℕ). Answers reported one other before after') before_is
-      (subst (λ (after : List ℕ). Answers reported one other before after) after_is is))))
+-- and so is what is answered of two sources
+pub answers_as : (Is : ReachAsking → Side → Side → Answer → Type 0) (answer : Answer) (reported asked : ReachAsking) → reported ≡ asked → (before before' after after' : Source)
+    → before ≡ before' → after ≡ after' → OfSources (Is reported) before after answer → OfSources (Is asked) before' after' answer
+answers_as Is answer reported asked asking_is before before' after after' before_is after_is is =
+    subst (λ (asking : ReachAsking). OfSources (Is asking) before' after' answer) asking_is
+    (subst (λ (before : Source). OfSources (Is reported) before after' answer) before_is
+    (subst (λ (after : Source). OfSources (Is reported) before after answer) after_is is))
 
 -- what is reported of these people before, and of the others after, is what the words ask by reach
 module _ (bytes_of : Text → Option (List ℕ)) (input : Option (List ℕ)) (rows : List Row) (host : Host) (host_is : IsHost bytes_of rows host) (persons : List Person)

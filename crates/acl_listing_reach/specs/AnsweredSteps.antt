@@ -4,8 +4,11 @@ use Rattle.std.specs.List.{list_any}
 use Rattle.acl_names.specs.Names.{Names}
 use Rattle.acl_listings.specs.Listing.{Block}
 use Rattle.acl_listings.specs.declared.fault.BlockFault.{BlockFault}
-use Rattle.acl_reports.specs.Listed.{AreSaid, Item, Part, items_after, no_blocks, tally_with}
-use Rattle.acl_reports.specs.declared.tally.Tally.{Tally}
+use Rattle.acl_reports.specs.Listed.{AreSaid, Item, Part, items_after, no_blocks, strangers_with}
+use Rattle.acl_reports.specs.Listed.{tally_with}
+use Rattle.acl_reports.specs.Strangers.{no_strangers}
+use Rattle.acl_reports.specs.declared.counts.Counts.{Counts}
+use Rattle.acl_reports.specs.declared.stranger.Stranger.{Stranger}
 use Rattle.acl_listing_changes.specs.RestoreLaws.{text_has}
 use Rattle.acl_listing_reach.specs.Once.{At, has_path, part_once, paths_of}
 
@@ -19,13 +22,14 @@ abbrev pub letters_unless : Option BlockFault → List ℕ → Option (List ℕ)
 letters_unless None letters = Some letters
 letters_unless (Some fault) letters = None
 
--- of a listing with this name and these names in it, of whose blocks these are the items, so much
--- is known, said and counted
-pub record AreAnswered (name : List ℕ) (names : Names) (items : List Item) (known : List At)
-    (said : List ℕ) (tally : Tally) : Type 0 where
+-- of a listing with this name and these names in it, of whose blocks these are the items, and whose
+-- texts name these ids without an account first, so much is known, said and counted
+pub record AreAnswered (name : List ℕ) (names : Names) (stranger : List ℕ → Option Stranger)
+    (items : List Item) (known : List At) (said : List ℕ) (counts : Counts) : Type 0 where
   pub known_is : known ≡ paths_of items
   pub said_are : AreSaid name names items said
-  pub tally_is : tally ≡ tally_with no_blocks items
+  pub tally_is : counts.tally ≡ tally_with no_blocks items
+  pub strangers_are : counts.strangers ≡ strangers_with stranger no_strangers items
 
 -- the paths that are known are those of the texts
 abbrev pub AreListed : List (List ℕ) → List At → Type 0
@@ -43,11 +47,12 @@ AreItemsTo part (Some blocks) items earlier (Some left) =
 
 -- a listing was answered so far, by what stands behind some texts
 pub record IsAnsweredTo (Stands : List (List ℕ) → Type 0) (part : List (List ℕ) → List ℕ → Part)
-    (name : List ℕ) (names : Names) (coming left : Option (List Block)) (known : List At)
-    (said : List ℕ) (tally : Tally) : Type 0 where
-  pub earlier : List (List ℕ)
-  pub stands : Stands earlier
-  pub items : List Item
-  pub items_are : AreItemsTo part coming items earlier left
-  pub answered : AreAnswered name names items known said tally
-  pub listed : AreListed earlier known
+    (stranger : List ℕ → Option Stranger) (name : List ℕ) (names : Names)
+    (coming left : Option (List Block)) (known : List At) (said : List ℕ) (counts : Counts) : Type 0
+  where
+    pub earlier : List (List ℕ)
+    pub stands : Stands earlier
+    pub items : List Item
+    pub items_are : AreItemsTo part coming items earlier left
+    pub answered : AreAnswered name names stranger items known said counts
+    pub listed : AreListed earlier known

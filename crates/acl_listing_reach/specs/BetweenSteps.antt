@@ -3,16 +3,21 @@
 use Rattle.std.specs.Prelude.{◌≡◌, ℕ, List, ◌++◌, ◌&&◌, not}
 use Rattle.acl_cli.specs.Commands.{Answer}
 use Rattle.acl_cli.specs.Reporting.{is_empty}
-use Rattle.acl_reports.specs.Listed.{closing, ending_of}
+use Rattle.acl_reports.specs.Listed.{ending_of, last_lines}
+use Rattle.acl_reports.specs.declared.counts.Counts.{Counts}
 use Rattle.acl_listing_changes.specs.Changes.{ending_of_both, with_difference}
 use Rattle.acl_listing_reach.specs.ReachAnswer.{apart_text}
 use Rattle.acl_listing_reach.specs.ReachText.{ReachAsking, report_text}
 use Rattle.acl_listing_reach.specs.declared.answered.Answered.{Answered}
 
+-- all that is said at the end of a listing of this name of which so much was counted
+abbrev pub closing_by : List ℕ → Counts → List ℕ
+closing_by name counts = last_lines name counts.tally counts.strangers
+
 -- what is said of the listings of these names
 abbrev pub said_by : List ℕ → Answered → List ℕ → Answered → List ℕ
-said_by name before other after = before.said.items ++ closing name before.tally
-    ++ after.said.items ++ apart_text before.known after.known ++ closing other after.tally
+said_by name before other after = before.said.items ++ closing_by name before.counts
+    ++ after.said.items ++ apart_text before.known after.known ++ closing_by other after.counts
 
 -- this is reported and said of them
 pub record AreTextsBy (asking : ReachAsking) (name : List ℕ) (before : Answered) (other : List ℕ)
@@ -25,7 +30,7 @@ pub record IsAnswerBy (asking : ReachAsking) (name : List ℕ) (before : Answere
     (after : Answered) (answer : Answer) : Type 0 where
   pub texts : AreTextsBy asking name before other after answer.text answer.beside
   pub ending : answer.ending ≡ with_difference (asking.asks && not (is_empty answer.text))
-      (ending_of_both (ending_of before.tally) (ending_of after.tally))
+      (ending_of_both (ending_of before.counts.tally) (ending_of after.counts.tally))
 
 abbrev pub IsBegunBy : ReachAsking → List ℕ → Answered → List ℕ → Answered → Answer → Type 0
 IsBegunBy asking name before other after answer =

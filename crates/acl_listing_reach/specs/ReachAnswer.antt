@@ -6,7 +6,10 @@ use Rattle.acl_names.specs.Names.{Names}
 use Rattle.acl_cli.specs.Commands.{Answer}
 use Rattle.acl_cli.specs.Reporting.{is_empty}
 use Rattle.acl_cli.specs.declared.command.Ending.{Ending}
-use Rattle.acl_reports.specs.Listed.{AreSaid, Item, closing, ending_of, no_blocks, tally_with}
+use Rattle.acl_reports.specs.Listed.{AreSaid, Item, ending_of, last_lines_with, no_blocks}
+use Rattle.acl_reports.specs.Listed.{tally_with}
+use Rattle.acl_reports.specs.Strangers.{no_strangers}
+use Rattle.acl_reports.specs.declared.stranger.Stranger.{Stranger}
 use Rattle.acl_reports.specs.declared.tally.Tally.{Tally}
 use Rattle.acl_listing_changes.specs.Changes.{ending_of_both, with_difference}
 use Rattle.acl_listing_changes.specs.Impacting.{apart_line}
@@ -14,10 +17,11 @@ use Rattle.acl_listing_reach.specs.Once.{At, has_path, paths_of}
 use Rattle.acl_listing_reach.specs.ReachText.{ReachAsking, report_text}
 
 -- a listing as it is answered: its name, the names by which the line of a block is found that is at
--- fault, and what each block results in
+-- fault, which id without an account a block names first, and what each block results in
 pub record Side : Type 0 where
   pub name : List ℕ
   pub names : Names
+  pub stranger : List ℕ → Option Stranger
   pub items : List Item
 
 abbrev pub paths_in : Side → List At
@@ -25,6 +29,10 @@ paths_in side = paths_of side.items
 
 abbrev pub tally_in : Side → Tally
 tally_in side = tally_with no_blocks side.items
+
+-- all that is said at its end
+abbrev pub closing_in : Side → List ℕ
+closing_in side = last_lines_with side.name side.stranger no_blocks no_strangers side.items
 
 -- what is said if both listings have paths, but none that is in both
 abbrev pub first_path : List At → Option (List ℕ)
@@ -40,7 +48,8 @@ apart_text before after = apart_by (list_any (λ at. has_path at.path before) af
     (first_path before) (first_path after)
 
 -- The texts are what is reported for both, and what is said of them: the faults of the listing
--- before, and how many there are; and those of the listing after.
+-- before, how many there are, and which ids without an account it names; and the same of the
+-- listing after.
 pub record IsReport (asking : ReachAsking) (before after : Side) (text beside : List ℕ) : Type 0
   where
     pub text_is : text ≡ report_text asking (paths_in before) (paths_in after)
@@ -48,8 +57,8 @@ pub record IsReport (asking : ReachAsking) (before after : Side) (text beside : 
     pub first_are : AreSaid before.name before.names before.items first
     pub second : List ℕ
     pub second_are : AreSaid after.name after.names after.items second
-    pub beside_is : beside ≡ first ++ closing before.name (tally_in before) ++ second
-        ++ apart_text (paths_in before) (paths_in after) ++ closing after.name (tally_in after)
+    pub beside_is : beside ≡ first ++ closing_in before ++ second
+        ++ apart_text (paths_in before) (paths_in after) ++ closing_in after
 
 abbrev pub ending_between : ReachAsking → Side → Side → List ℕ → Ending
 ending_between asking before after text = with_difference (asking.asks && not (is_empty text))

@@ -11,6 +11,7 @@ use Rattle.acl_people.specs.People.{IsAskedFailure, asked_in}
 use Rattle.acl_people.specs.Person.{Person}
 use Rattle.acl_reports.specs.ListingMeaning.{inputs_of}
 use Rattle.acl_reports.specs.RulesMeaning.{rules_in}
+use Rattle.acl_reports.specs.Strangers.{stranger_in}
 use Rattle.acl_listing_queries.specs.WhoPart.{letters_asked, who_part}
 use Rattle.acl_listing_changes.specs.ChangeMeaning.{after_in, before_in}
 use Rattle.acl_listing_changes.specs.ImpactMeaning.{FailsForImpact, concern_in}
@@ -26,12 +27,12 @@ reach_asked persons rows = record {
 }
 
 -- the listing of a name, as these people by these accounts are reported to reach what is in it,
--- where these rules evaluate lists
+-- where these rules evaluate lists, and with the ids that these accounts lack
 abbrev pub reach_source : (Text → Option (List ℕ)) → Option (List ℕ) → Rules → Host → List Person
     → Text → Source
 reach_source bytes_of input rules host persons name =
     source_named bytes_of input (names_of_host host)
-    (who_part (letters_asked rules (names_of_host host) persons)) name
+    (who_part (letters_asked rules (names_of_host host) persons)) (stranger_in host) name
 
 -- who is asked about after, and by which accounts: the same by those of the file that the words
 -- name, and if they name none the same by the same

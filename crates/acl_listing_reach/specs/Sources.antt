@@ -7,23 +7,27 @@ use Rattle.acl_listings.specs.Cursor.{blocks_to_come}
 use Rattle.acl_listings.specs.Listing.{Block}
 use Rattle.acl_reports.specs.Listed.{Part, items_after}
 use Rattle.acl_reports.specs.ListingMeaning.{bytes_named, inputs_of}
+use Rattle.acl_reports.specs.declared.stranger.Stranger.{Stranger}
 use Rattle.acl_listing_changes.specs.ChangeMeaning.{FailsForListings}
 use Rattle.acl_listing_reach.specs.Once.{part_once}
 use Rattle.acl_listing_reach.specs.ReachAnswer.{IsReachAnswer, IsReachBegun, Side}
 use Rattle.acl_listing_reach.specs.ReachText.{ReachAsking}
 
--- a listing of this name, with these bytes, if they are known, of which a block results in this
+-- a listing of this name, with these bytes, if they are known, of which a block results in this and
+-- names this id without an account first
 pub record Source : Type 0 where
   pub name : List ℕ
   pub bytes : Option (List ℕ)
   pub names : Names
   pub part : List (List ℕ) → List ℕ → Part
+  pub stranger : List ℕ → Option Stranger
 
 -- with these blocks
 abbrev pub side_of : Source → List Block → Side
 side_of source blocks = record {
   name = source.name;
   names = source.names;
+  stranger = source.stranger;
   items = items_after (part_once source.part) [] blocks;
 }
 
@@ -35,12 +39,13 @@ OfSources Is before after answer = IfSome (blocks_to_come 1 before.bytes) (λ bl
 
 -- the listing of this name, by these files and this input
 abbrev pub source_named : (Text → Option (List ℕ)) → Option (List ℕ) → Names
-    → (List (List ℕ) → List ℕ → Part) → Text → Source
-source_named bytes_of input names part name = record {
+    → (List (List ℕ) → List ℕ → Part) → (List ℕ → Option Stranger) → Text → Source
+source_named bytes_of input names part stranger name = record {
   name = name;
   bytes = bytes_named bytes_of input name;
   names = names;
   part = part;
+  stranger = stranger;
 }
 
 -- these listings

@@ -5,9 +5,9 @@ ghost use Rattle.std.specs.Option.{option_map_or};
 ghost use Rattle.acl_listings.specs.Block.{path_of};
 ghost use Rattle.acl_listings.specs.Cursor.{blocks_to_come};
 ghost use Rattle.acl_people.specs.Host.{names_of_host};
-ghost use Rattle.acl_reports.specs.Listed.{IsSaid, Item, items_after};
-ghost use Rattle.acl_reports.specs.Listed.{fault_in, no_blocks, with_item};
+ghost use Rattle.acl_reports.specs.Listed.{IsSaid, Item, counted, items_after, no_blocks};
 ghost use Rattle.acl_reports.specs.Reporting.{IsListingFailure};
+ghost use Rattle.acl_reports.specs.Strangers.{no_strangers, with_stranger};
 ghost use Rattle.acl_listing_changes.specs.Changes.{part_of};
 ghost use Rattle.acl_listing_reach.specs.AnsweredSteps.{AreAnswered, AreListed, IsPartBy};
 ghost use Rattle.acl_listing_reach.specs.AnsweredSteps.{letters_unless};
@@ -18,7 +18,7 @@ use acl_cli::Failure;
 use acl_listing_changes::unless_repeated;
 use acl_listings::{BlockFault, Blocks, FileFault, path_of};
 use acl_people::Host;
-use acl_reports::{BlockReporter, Tally, advance, push_fault};
+use acl_reports::{BlockReporter, Counts, Stranger, advance, push_fault};
 use std::alloc::{AllocError, Global};
 use std::io::Read;
 
@@ -28,11 +28,12 @@ pub(crate) struct Answered {
     pub known: KnownPaths,
     /// What is said of blocks of which that isn't known.
     pub said: Vec<u8>,
-    pub tally: Tally,
+    pub counts: Counts,
 }
 
 /// Answers a block in place of what `letters` had. Returns what is wrong with it, if anything is;
-/// else `letters` are what it results in. It fails only if memory runs out.
+/// else `letters` are what it results in. In either case the reporter has found which id without an
+/// account it names first. It fails only if memory runs out.
 fn letters_of<T: BlockReporter>(
     alloc: Global,
     reporter: &mut T,
@@ -40,6 +41,9 @@ fn letters_of<T: BlockReporter>(
     letters: &mut Vec<u8>,
 ) -> Result<Option<BlockFault>, AllocError>
     ensures same { OnOk result (T.part reporter.new ≡ T.part reporter.old) }
+    ensures strangers { OnOk result (T.stranger reporter.new ≡ T.stranger reporter.old) }
+    ensures found { (earlier : List (List ℕ)) → T.Stands reporter.old earlier
+        → OnOk result (T.found reporter.new ≡ T.stranger reporter.old text.now) }
     ensures stands { (earlier : List (List ℕ)) → T.Stands reporter.old earlier
         → OnOk result (T.Stands reporter.new (earlier ++ text.now ∷ [])) }
     ensures part { (earlier : List (List ℕ)) → T.Stands reporter.old earlier
@@ -117,20 +121,24 @@ fn say<'n>(
     }
 }
 
-/// One block more, with this text, of which this is wrong, if anything is.
-fn counted<'n>(
+/// One block more, with this text, whose first line has this number, of which this is wrong, if
+/// anything is, and which names this id without an account first, if any.
+fn count<'n>(
     name: &'n str,
-    tally: Tally,
+    counts: Counts,
+    line: u64,
     text: &[u8],
     fault: Option<BlockFault>,
-) -> Result<Tally, Failure<'n>>
-    ensures counted { IfOk result (λ more. (item : Item) → (item.block.text ≡ text.now)
-        → (fault_in item.part ≡ fault) → more ≡ with_item tally item) }
+    found: Option<Stranger>,
+) -> Result<Counts, Failure<'n>>
+    ensures tally { IfOk result (λ more. more.tally ≡ counted counts.tally text.now fault) }
+    ensures strangers { IfOk result (λ more.
+        more.strangers ≡ with_stranger counts.strangers line found) }
     ensures failed { IfErr result (IsListingFailure name.entry.now) }
 {
-    match tally.with(text, fault) {
+    match counts.with(line, text, fault, found) {
         Some(more) => Ok(more),
-        // No listing has so many blocks.
+        // No listing has so many blocks or lines.
         None => Err(Failure::Unread(name)),
     }
 }
@@ -140,12 +148,13 @@ impl Answered {
     fn new(alloc: Global) -> Answered
         ensures known { result.known ≡ [] }
         ensures said { result.said.items ≡ [] }
-        ensures tally { result.tally ≡ no_blocks }
+        ensures tally { result.counts.tally ≡ no_blocks }
+        ensures strangers { result.counts.strangers ≡ no_strangers }
     {
         Answered {
             known: KnownPaths::new(alloc),
             said: Vec::new(alloc),
-            tally: Tally::new(),
+            counts: Counts::new(),
         }
     }
 
@@ -162,25 +171,27 @@ impl Answered {
         letters: &mut Vec<u8>,
     ) -> Result<(), Failure<'n>>
         ensures same { OnOk result (T.part reporter.new ≡ T.part reporter.old) }
+        ensures strangers { OnOk result (T.stranger reporter.new ≡ T.stranger reporter.old) }
         ensures stands { (earlier : List (List ℕ)) → T.Stands reporter.old earlier
             → OnOk result (T.Stands reporter.new (earlier ++ text.now ∷ [])) }
         ensures answered { (earlier : List (List ℕ)) (items : List Item)
             → T.Stands reporter.old earlier → AreListed earlier self.old.known
-            → AreAnswered name.entry.now (names_of_host host.now) items self.old.known
-            self.old.said.items self.old.tally
+            → AreAnswered name.entry.now (names_of_host host.now) (T.stranger reporter.old) items
+            self.old.known self.old.said.items self.old.counts
             → OnOk result (AreAnswered name.entry.now (names_of_host host.now)
-            (items ++ record {
+            (T.stranger reporter.old) (items ++ record {
               block = record { line = line; text = text.now };
               part = part_once (T.part reporter.old) earlier text.now;
-            } ∷ []) self.new.known self.new.said.items self.new.tally
+            } ∷ []) self.new.known self.new.said.items self.new.counts
             × AreListed (earlier ++ text.now ∷ []) self.new.known) }
         ensures failed { IfErr result (IsListingFailure name.entry.now) }
     {
         let own = letters_of(alloc, reporter, text, letters)?;
+        let found = reporter.found();
         let repeated = is_known(&self.known, text);
         let fault = unless_repeated(repeated, own);
         say(name, host, line, text, fault, &mut self.said)?;
-        self.tally = counted(name, self.tally, text, fault)?;
+        self.counts = count(name, self.counts, line, text, fault, found)?;
         let letters = letters_unless(fault, letters.as_slice());
         keep(alloc, repeated, text, letters, &mut self.known)?;
         Ok(())
@@ -197,9 +208,9 @@ fn answer_each<'n, T: BlockReporter + Drop, R: Read + Drop>(
 ) -> Result<Answered, Failure<'n>>
     requires { T.Stands reporter [] }
     ensures answered { IfOk result (λ answered. IfSome blocks.old.coming (λ blocks.
-        AreAnswered name.entry.now (names_of_host host.now)
+        AreAnswered name.entry.now (names_of_host host.now) (T.stranger reporter)
         (items_after (part_once (T.part reporter)) [] blocks) answered.known answered.said.items
-        answered.tally)) }
+        answered.counts)) }
     ensures failed { IfErr result (IsListingFailure name.entry.now) }
 {
     let mut answered = Answered::new(alloc);
@@ -234,9 +245,9 @@ pub(crate) fn answer_listing<'n, T: BlockReporter + Drop, R: Read + Drop>(
 ) -> Result<Answered, Failure<'n>>
     requires { T.Stands reporter [] }
     ensures answered { IfOk result (λ answered. IfSome (blocks_to_come 1 (R.remaining reader))
-        (λ blocks. AreAnswered name.entry.now (names_of_host host.now)
+        (λ blocks. AreAnswered name.entry.now (names_of_host host.now) (T.stranger reporter)
         (items_after (part_once (T.part reporter)) [] blocks) answered.known answered.said.items
-        answered.tally)) }
+        answered.counts)) }
     ensures failed { IfErr result (IsListingFailure name.entry.now) }
 {
     let mut blocks = Blocks::new(alloc, reader)?;

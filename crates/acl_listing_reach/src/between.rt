@@ -40,10 +40,10 @@ fn said_of(
         ≡ said_by name.now before.now other.now after.now) }
 {
     let mut said = Vec::from_slice(alloc, before.said.as_slice())?;
-    before.tally.push_closing(name, &mut said)?;
+    before.counts.push_last(name, &mut said)?;
     said.extend_from_slice(after.said.as_slice())?;
     push_if_apart(&before.known, &after.known, &mut said)?;
-    after.tally.push_closing(other, &mut said)?;
+    after.counts.push_last(other, &mut said)?;
     Ok(said)
 }
 
@@ -69,7 +69,7 @@ fn report_answered<'n, W: Write, E: Write + Drop>(
     let said = said_of(alloc, name, before, other, after)?;
     err.write_text(said.as_slice());
     let some = report_report(alloc, asking, &before.known, &after.known, out, err)?;
-    let ending = ending_of_both(before.tally.ending(), after.tally.ending());
+    let ending = ending_of_both(before.counts.ending(), after.counts.ending());
     Ok(with_difference(asking.asks, some, ending))
 }
 
@@ -99,12 +99,14 @@ where
           bytes = B.remaining reader;
           names = names_of_host before.entry.host.now;
           part = T.part before.entry.reporter;
+          stranger = T.stranger before.entry.reporter;
         })
         (record {
           name = after.entry.name.now;
           bytes = A.remaining other;
           names = names_of_host after.entry.host.now;
           part = T.part after.entry.reporter;
+          stranger = T.stranger after.entry.reporter;
         })) ending (W.contents out.old) (W.contents out.new) err.old err.new) }
     ensures cut { OnErr result (NothingWentOut (W.contents out.old) (W.contents out.new) err.old
         err.new ⊎ FrontWentOut (OfSources
@@ -114,12 +116,14 @@ where
           bytes = B.remaining reader;
           names = names_of_host before.entry.host.now;
           part = T.part before.entry.reporter;
+          stranger = T.stranger before.entry.reporter;
         })
         (record {
           name = after.entry.name.now;
           bytes = A.remaining other;
           names = names_of_host after.entry.host.now;
           part = T.part after.entry.reporter;
+          stranger = T.stranger after.entry.reporter;
         })) (W.contents out.old) (W.contents out.new) err.old err.new) }
     ensures failed { IfErr result (λ failure. IsListingFailure before.entry.name.now failure
         ⊎ (IsListingFailure after.entry.name.now failure ⊎ (failure ≡ failed_write))) }
@@ -152,9 +156,11 @@ where
     requires after { T.Stands after.reporter [] }
     ensures { Comes (sources_meaning (asking_by asking.entry)
         (source_named (F.bytes_of files.now) (I.remaining input.old)
-        (names_of_host before.entry.host.now) (T.part before.entry.reporter) before.entry.name.now)
+        (names_of_host before.entry.host.now) (T.part before.entry.reporter)
+        (T.stranger before.entry.reporter) before.entry.name.now)
         (source_named (F.bytes_of files.now) (I.remaining input.old)
-        (names_of_host after.entry.host.now) (T.part after.entry.reporter) after.entry.name.now))
+        (names_of_host after.entry.host.now) (T.part after.entry.reporter)
+        (T.stranger after.entry.reporter) after.entry.name.now))
         result (W.contents out.old) (W.contents out.new) err.old err.new input.old input.new }
 {
     if before.name == INPUT {

@@ -44,7 +44,8 @@ who is affected, and with --user one for each of these alone; then a new or gone
 path is followed by such lines too. With --text, which excludes --reach, also
 changed WHAT PATH, for a path whose blocks differ as read. uid 0 is never
 evaluated: it may do nearly everything. Blocks that can't be evaluated go to
-standard error: aclctl: LISTING:LINE: WORD: TEXT.
+standard error, as aclctl: LISTING:LINE: WORD: TEXT; and for each listing how
+many files name ids without an account, and the first id.
 
 With --accounts-after, AFTER is evaluated by other accounts: what breaks if a
 user leaves a group, or a group is removed. (With BEFORE twice, the accounts
@@ -64,8 +65,9 @@ evaluated, or a listing has none; 5 with --exit-code, if there is a line.";
 /// It keeps BEFORE in memory, and reads AFTER in pieces; one of them may be `-`, for `input`. With
 /// `--reach` it keeps the paths and the distinct answers of both. `out` gets the lines of what
 /// changed, in pieces of some 64 KiB; `err` gets a line for each block that can't be compared, and
-/// at the end their number. The answer is partial if there is such a block, or a listing has none;
-/// else it differs if there is a line and `--exit-code` is given.
+/// for each listing their number, and how many files name ids that no account has. The answer is
+/// partial if there is such a block, or a listing has none; else it differs if there is a line and
+/// `--exit-code` is given.
 ///
 /// Fails before it writes anything if options exclude each other, both listings are `-`, a file
 /// can't be read or is malformed, or no user has a NAME. Fails after a prefix of the answer, maybe

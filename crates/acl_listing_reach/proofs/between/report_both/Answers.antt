@@ -15,12 +15,14 @@ returns-clause-answered g c =
       bytes = g.B.Read.remaining c.args.reader;
       names = names_of_host c.args.before.host.now;
       part = g.T.BlockReporter.part c.args.before.reporter;
+      stranger = g.T.BlockReporter.stranger c.args.before.reporter;
     } in
     let after : Source = record {
       name = c.args.after.name.now;
       bytes = g.A.Read.remaining c.args.other;
       names = names_of_host c.args.after.host.now;
       part = g.T.BlockReporter.part c.args.after.reporter;
+      stranger = g.T.BlockReporter.stranger c.args.after.reporter;
     } in
     IfOk-weaker c.report_answered.result _ _
     (λ ending went. went_both (asking_by c.args.asking) before after c.in_ok-first.first c.in_ok-second.second c.in_ok-first.ensures.answered c.in_ok-second.ensures.answered ending _ _ _ _ went)
@@ -33,12 +35,14 @@ returns-clause-cut g c =
       bytes = g.B.Read.remaining c.args.reader;
       names = names_of_host c.args.before.host.now;
       part = g.T.BlockReporter.part c.args.before.reporter;
+      stranger = g.T.BlockReporter.stranger c.args.before.reporter;
     } in
     let after : Source = record {
       name = c.args.after.name.now;
       bytes = g.A.Read.remaining c.args.other;
       names = names_of_host c.args.after.host.now;
       part = g.T.BlockReporter.part c.args.after.reporter;
+      stranger = g.T.BlockReporter.stranger c.args.after.reporter;
     } in
     on_err_weaker c.report_answered.result
     (⊎_map (λ none. none)

@@ -1,4 +1,4 @@
-use Rattle.std.proofs.Common.{◌≡◌, inl, subst, sym}
+use Rattle.std.proofs.Common.{inl, subst, sym}
 use Rattle.acl_listing_reach.specs.KnownSteps.{IsGrownBy}
 use Rattle.acl_listing_reach.proofs.KnownLemmas.{grown_if}
 use Rattle.acl_listing_reach.proofs.known.place_for.Goals as goal

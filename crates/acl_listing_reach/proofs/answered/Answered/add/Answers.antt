@@ -3,7 +3,8 @@ use Rattle.acl_listings.specs.Block.{path_of}
 use Rattle.acl_listings.specs.Listing.{Block}
 use Rattle.acl_listings.specs.declared.fault.BlockFault.{BlockFault}
 use Rattle.acl_people.specs.Host.{names_of_host}
-use Rattle.acl_reports.specs.Listed.{IsSaid, Part}
+use Rattle.acl_reports.specs.Listed.{IsSaid, Part, counted}
+use Rattle.acl_reports.specs.Strangers.{with_stranger}
 use Rattle.acl_listing_changes.specs.Changes.{part_of, unless_repeated}
 use Rattle.acl_listing_reach.specs.AnsweredSteps.{AreListed, letters_unless}
 use Rattle.acl_listing_reach.specs.Once.{At, is_repeated, with_path}
@@ -17,6 +18,7 @@ returns-clause-answered g c = λ earlier items stands listed was.
     let text = c.args.text.now in
     let block : Block = record { line = c.args.line; text = text } in
     let part : Part = g.T.BlockReporter.part c.args.reporter.now earlier text in
+    let stranger = g.T.BlockReporter.stranger c.args.reporter.now in
     let known : List At = c.args.self.now.known in
     let own = c.in_ok-own.own in
     let letters = c.letters_of.new.letters.items in
@@ -27,10 +29,14 @@ returns-clause-answered g c = λ earlier items stands listed was.
     let kept : Option (List ℕ) = option_map (λ letters. letters.now) c.letters_unless-letters.result in
     let kept_is : kept ≡ letters_unless fault letters =
     c.letters_unless-letters.ensures ∙ ap (letters_unless c.unless_repeated-fault.result) c.as_slice.ensures.value ∙ ap (λ (fault : Option BlockFault). letters_unless fault letters) fault_is in
+    let was_counted = c.args.self.now.counts in
+    let tally_is = c.in_ok-self.ensures.tally ∙ ap (counted was_counted.tally text) fault_is in
+    let found_is : c.found-found.result ≡ stranger text = c.found-found.ensures ∙ c.in_ok-own.ensures.found earlier stands in
+    let strangers_are = c.in_ok-self.ensures.strangers ∙ ap (with_stranger was_counted.strangers c.args.line) found_is in
     let (more, said, said_is) = c.in_ok-say.ensures.said in (
-      answered_more name names items known c.args.self.now.said.items c.args.self.now.tally was block part repeated own letters (c.in_ok-own.ensures.part earlier stands)
+      answered_more name names stranger items known c.args.self.now.said.items was_counted was block part repeated own letters (c.in_ok-own.ensures.part earlier stands)
           c.keep.new.known (c.in_ok-keep.ensures ∙ ap (with_path known (path_of text)) kept_is)
           more c.say.new.said.items (subst (λ (fault : Option BlockFault). IsSaid name names block (part_of fault) more) fault_is said) said_is
-          c.in_ok-self.field-0 (λ item text_is is. c.in_ok-self.ensures.counted item text_is (is ∙ sym fault_is)),
+          c.in_ok-self.field-0 tally_is strangers_are,
       subst (AreListed (earlier ++ text ∷ [])) (sym c.in_ok-keep.ensures) (listed_more earlier known listed text kept),
     )
