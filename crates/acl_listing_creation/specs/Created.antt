@@ -2,10 +2,8 @@
 use Rattle.std.specs.Prelude.{ℕ, Bool, ◌+◌, ◌-◌, nat_le, nat_lt, List, [], ◌∷◌}
 use Rattle.std.specs.Prelude.{◌++◌, length, drop, Option, Some, None, Result, Ok, Err, bytes_eq}
 use Rattle.std.specs.Prelude.{codes, if◌then◌else◌}
-use Rattle.acl_names.specs.Bits.{without}
 use Rattle.acl_names.specs.Bytes.{newline}
 use Rattle.acl_names.specs.Steps.{◌>>=◌}
-use Rattle.acl_posix.specs.Entry.{EntryValue}
 use Rattle.acl_posix.specs.Mode.{Classes, at_creation, of_mode}
 use Rattle.acl_posix.specs.declared.acl_text.AclFault.TheVariants.{TooMany}
 use Rattle.acl_nfs4.specs.Ace.{Nfsace4}
@@ -14,6 +12,7 @@ use Rattle.acl_nfs4.specs.ModeChange.{with_mode}
 use Rattle.acl_nfs4.specs.declared.inheritance.Kind.{Kind}
 use Rattle.acl_nfs4.specs.declared.inheritance.Kind.TheVariants.{File, Dir}
 use Rattle.acl_nfs4.specs.declared.limits.TheConstants.{MAX_ACES}
+use Rattle.acl_tree.specs.NodeAcls.{beyond_umask, default_below}
 use Rattle.acl_listings.specs.Block.{FileValue}
 use Rattle.acl_listings.specs.FileFlags.{no_flags}
 use Rattle.acl_listings.specs.Numbered.{header_text, lists_text}
@@ -28,19 +27,6 @@ use Rattle.acl_reports.specs.Listed.{Part}
 use Rattle.acl_listing_creation.specs.declared.creation.Creation.{Creation}
 
 -- ---- the lists
-
--- the mode without the umask's bits
-abbrev pub beyond_umask : Classes → Classes → Classes
-beyond_umask mode umask = record {
-  user = without mode.user umask.user;
-  group = without mode.group umask.group;
-  other = without mode.other umask.other;
-}
-
--- a new folder has the default list too
-abbrev pub default_below : Kind → List EntryValue → Option (List EntryValue)
-default_below Dir default = Some default
-default_below File default = None
 
 -- the mode that is set on inherited entries; if none is inherited, the umask counts
 abbrev pub mode_on : Creation → List Nfsace4 → Classes

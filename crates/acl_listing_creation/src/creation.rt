@@ -1,6 +1,7 @@
 //! What a user creates.
 ghost use Rattle.std.specs.Prelude.{◌≡◌};
-ghost use Rattle.acl_listing_creation.specs.Created.{beyond_umask, mode_on};
+ghost use Rattle.acl_tree.specs.NodeAcls.{beyond_umask};
+ghost use Rattle.acl_listing_creation.specs.Created.{mode_on};
 
 use acl_names::{Gid, Uid};
 use acl_nfs4::{Ace, Kind};

@@ -2,7 +2,8 @@
 ghost use Rattle.std.specs.Prelude.{◌≡◌, IfOk};
 ghost use Rattle.acl_listings.specs.Faults.{ReadsAs};
 ghost use Rattle.acl_listings.specs.declared.lists.Lists.TheVariants.{Nfs4};
-ghost use Rattle.acl_listing_creation.specs.Created.{default_below, lists_in};
+ghost use Rattle.acl_tree.specs.NodeAcls.{default_below};
+ghost use Rattle.acl_listing_creation.specs.Created.{lists_in};
 
 use crate::creation::Creation;
 use acl_listings::{BlockFault, FileFault, Lists};

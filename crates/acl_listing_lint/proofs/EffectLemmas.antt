@@ -1,6 +1,5 @@
 -- What a comparison finds, as whether an entry has an effect.
-use Rattle.std.proofs.Common.{◌≡◌, List, ℕ, Option, Some, None, Result, IfOk, inl, inr}
-use Rattle.std.proofs.lemmas.Result.{IfOk-weaker}
+use Rattle.std.proofs.Common.{List, ℕ, Some, None, inl, inr}
 use Rattle.acl_access.proofs.ExclusiveLemmas.{changes_are_not_alike}
 use Rattle.acl_access.proofs.FoundLemmas.{found}
 use Rattle.acl_access.specs.Changes.{IsAlikeToAll, change_of}

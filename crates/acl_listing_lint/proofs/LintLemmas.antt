@@ -1,9 +1,5 @@
 -- A listing that is reported one block further.
-use Rattle.std.proofs.Common.{◌≡◌, ◌∙◌, ◌++◌, ◌+◌, ℕ, Bool, true, false, List, [], ◌∷◌, Option, Some, None, IfSome, Result, Ok, Err, ap, append_assoc, append-nil, inl, inr, length, not, ◌&&◌, refl, subst, sym}
-use Rattle.std.proofs.Math.Seq.{take-length}
-use Rattle.acl_cli.specs.Commands.{Answer, FrontWentOut}
-use Rattle.acl_cli.specs.ErrorOutput.{ErrorText, Reports}
-use Rattle.acl_cli.specs.Output.{AppendsFront}
+use Rattle.std.proofs.Common.{◌≡◌, ◌∙◌, ◌++◌, ◌+◌, ℕ, Bool, true, false, List, [], ◌∷◌, Option, Some, None, IfSome, Result, Ok, Err, ap, append_assoc, append-nil, inl, inr, not, ◌&&◌, refl, subst, sym}
 use Rattle.acl_cli.specs.Reporting.{LeadsOn, is_empty}
 use Rattle.acl_cli.specs.declared.command.Ending.{Ending}
 use Rattle.acl_cli.specs.declared.command.Ending.TheVariants.{Answered}
@@ -16,7 +12,7 @@ use Rattle.acl_listings.specs.declared.fault.BlockFault.{BlockFault}
 use Rattle.acl_listings.specs.declared.fault.FileFault.{FileFault}
 use Rattle.acl_listings.specs.declared.fault.FileFault.TheVariants.{Block as OfBlock, Memory}
 use Rattle.acl_people.specs.Host.{names_of_host}
-use Rattle.acl_reports.specs.Listed.{IsSaid, Item, Part, closing, ending_of, fault_in, first_guess, is_fault, is_unread, no_blocks, reported, reported_of, tally_with, with_item}
+use Rattle.acl_reports.specs.Listed.{IsSaid, Item, Part, closing, ending_of, fault_in, first_guess, is_fault, is_unread, no_blocks, reported_of, tally_with, with_item}
 use Rattle.acl_reports.specs.declared.tally.Tally.{Tally}
 use Rattle.acl_listing_lint.specs.Findings.{IsPartBy, IsPartOf, LintAsking, seen_behind}
 use Rattle.acl_listing_lint.specs.LintSteps.{AreReported, EndsBy, EndsSo, IsBegun, IsBegunBy, IsBlockDone, IsBlockReported, IsRefusalSaid, IsReported, IsReportedBy, Left}
@@ -127,6 +123,17 @@ pub record IsNext (left next : Left) (block : Block) (out out' beside beside' : 
   pub hands : HandsOut left.coming block next.coming
   pub done : IsBlockDone left.asking left.seen next.seen block left.tally next.tally out out' beside beside'
 
+pub next_by : (left next : Left) (coming : Option (List Block)) (block : Block) (out out' beside beside' : List ℕ) → left.closed ≡ false → HandsOut left.coming block coming
+    → next ≡ record left { seen = next.seen; tally = next.tally; coming = coming }
+    → IsBlockDone left.asking left.seen next.seen block left.tally next.tally out out' beside beside' → IsNext left next block out out' beside beside'
+next_by left next coming block out out' beside beside' was_open hands same done = record {
+  was_open = was_open;
+  still = ap (λ next. next.closed) same ∙ was_open;
+  asking = ap (λ next. next.asking) same;
+  hands = subst (HandsOut left.coming block) (sym (ap (λ next. next.coming) same)) hands;
+  done = done;
+}
+
 module _ (left next : Left) (block : Block) (out out' beside beside' : List ℕ) (is : IsNext left next block out out' beside beside') where
   abbrev here : Item
   here = record { block = block; part = is.done.part }
@@ -221,17 +228,6 @@ module _ (left : Left) (coming : Option (List Block)) (was_open : left.closed �
   ends_closing ending ends = subst (λ (left : Left). EndsBy left.closed left ending) (sym opened_is) (ends_end left.coming over ending ends)
 
 -- ---- a whole listing
-
--- fronts of what is reported and said went out
-pub front_out : (Is : Answer → Type 0) (out out' : Option (List ℕ)) (err err' : ErrorText) (text said : List ℕ) → Is (record { text = text; beside = said; ending = Answered })
-    → AppendsFront out out' text → Reports said err err' → FrontWentOut Is out out' err err'
-front_out Is out out' err err' text said is front reports = record {
-  answer = record { text = text; beside = said; ending = Answered };
-  is = is;
-  text = front;
-  said = length said;
-  beside = subst (λ said. Reports said err err') (sym (take-length said)) reports;
-}
 
 module _ (asking : LintAsking) (asks : Bool) (seen : Seen) (tally : Tally) (coming : Option (List Block)) (bytes : Option (List ℕ)) (nothing : seen ≡ nothing_seen) (none : tally ≡ no_blocks) (coming_is : coming ≡ blocks_to_come 1 bytes) where
   abbrev whole : Left

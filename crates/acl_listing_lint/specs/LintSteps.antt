@@ -23,6 +23,7 @@ use Rattle.acl_listing_lint.specs.declared.aces.ListedAces.{ListedAces}
 use Rattle.acl_listing_lint.specs.declared.entries.Listed.{Listed}
 use Rattle.acl_listing_lint.specs.declared.entries.ListedLists.{ListedLists}
 use Rattle.acl_listing_lint.specs.declared.found.Spot.{Spot}
+use Rattle.acl_listing_lint.specs.declared.report.Linting.{Linting}
 
 abbrev pub view_spot : Spot → found.Spot
 view_spot spot = record {
@@ -107,6 +108,16 @@ pub record Left : Type 0 where
   pub closed : Bool
   -- the blocks that are still to come, if that is known
   pub coming : Option (List Block)
+
+-- of this one
+abbrev pub left_of : {R : Type 0} → Linting R → Left
+left_of linting = record {
+  asking = record { name = linting.name.now; host = linting.host.now };
+  seen = linting.seen;
+  tally = linting.tally;
+  closed = linting.closed;
+  coming = linting.blocks.coming;
+}
 
 -- these texts are all that is reported and said of the blocks, and at the end
 pub record AreReported (asking : LintAsking) (seen : Seen) (tally : Tally)

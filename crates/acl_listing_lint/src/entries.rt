@@ -90,17 +90,15 @@ fn push_otherwise(
 }
 
 /// Appends what is found of an entry of the list.
-fn push_entry<'n>(
+fn push_entry(
     alloc: Global,
-    name: &'n str,
     listed: &Listed<'_>,
     spot: &Spot<'_>,
     entry: &Entry,
     out: &mut Vec<u8>,
-) -> Result<(), Failure<'n>>
+) -> Result<(), AllocError>
     ensures found { OnOk result (Adds (IsFoundOfEntry (view_list listed.now) (view_spot spot.now)
         entry.now) out.old.items out.new.items) }
-    ensures failed { IfErr result (IsListingFailure name.entry.now) }
 {
     push_effect(alloc, listed, spot, entry, out)?;
     push_masked(spot, listed.acl, entry, out)?;
@@ -110,38 +108,35 @@ fn push_entry<'n>(
 }
 
 /// Appends what is found of a piece, if it is an entry of the list.
-fn push_piece<'n>(
+fn push_piece(
     alloc: Global,
-    name: &'n str,
     host: &Host,
     listed: &Listed<'_>,
     spot: &Spot<'_>,
     out: &mut Vec<u8>,
-) -> Result<(), Failure<'n>>
+) -> Result<(), AllocError>
     ensures found { OnOk result (Adds (IsFoundOfRead (view_list listed.now) (view_spot spot.now)
         (entry_by (names_of_host host.now) spot.now.piece.now)) out.old.items out.new.items) }
-    ensures failed { IfErr result (IsListingFailure name.entry.now) }
 {
     match (EntryReader { names: host }).read(spot.piece) {
-        Ok(entry) => push_entry(alloc, name, listed, spot, &entry, out),
+        Ok(entry) => push_entry(alloc, listed, spot, &entry, out),
         Err(_) => Ok(()),
     }
 }
 
 /// Appends what is found of the entries of the list in a text, which stands in this line.
-fn push_said<'n>(
+fn push_said(
     alloc: Global,
-    name: &'n str,
+    name: &str,
     host: &Host,
     listed: &Listed<'_>,
     line: u64,
     said: &[u8],
     out: &mut Vec<u8>,
-) -> Result<(), Failure<'n>>
+) -> Result<(), AllocError>
     ensures found { OnOk result (Adds (AreFoundInText
-        (record { name = name.entry.now; host = host.now }) (view_list listed.now) line said.now)
+        (record { name = name.now; host = host.now }) (view_list listed.now) line said.now)
         out.old.items out.new.items) }
-    ensures failed { IfErr result (IsListingFailure name.entry.now) }
 {
     let before = listed.word();
     let mut pieces = Pieces::new(said);
@@ -152,7 +147,7 @@ fn push_said<'n>(
             before,
             piece,
         };
-        push_piece(alloc, name, host, listed, &spot, out)?;
+        push_piece(alloc, host, listed, &spot, out)?;
     }
     Ok(())
 }
@@ -168,19 +163,18 @@ fn after_default(line: &[u8]) -> Option<&[u8]>
 }
 
 /// Appends what is found of the entries in a line of the block.
-fn push_line<'n>(
+fn push_line(
     alloc: Global,
-    name: &'n str,
+    name: &str,
     host: &Host,
     listed: &ListedLists<'_>,
     line: u64,
     said: &[u8],
     out: &mut Vec<u8>,
-) -> Result<(), Failure<'n>>
+) -> Result<(), AllocError>
     ensures found { OnOk result (Adds (IsFoundInLine
-        (record { name = name.entry.now; host = host.now }) (view_lists listed.now) line said.now)
+        (record { name = name.now; host = host.now }) (view_lists listed.now) line said.now)
         out.old.items out.new.items) }
-    ensures failed { IfErr result (IsListingFailure name.entry.now) }
 {
     match after_default(said) {
         Some(behind) => match listed.default {

@@ -1,9 +1,7 @@
 //! What is reported for a listing, block by block.
 ghost use Rattle.std.specs.Prelude.{◌≡◌, ◌⊎◌, IfErr, IfOk, OnErr, OnOk};
-ghost use Rattle.std.specs.Bool.{MatchBool};
 ghost use Rattle.acl_cli.specs.Commands.{Comes, FrontWentOut, NothingWentOut, WentOut};
 ghost use Rattle.acl_cli.specs.Failures.{failed_write};
-ghost use Rattle.acl_listings.specs.Cursor.{HandsOut, IsOver};
 ghost use Rattle.acl_reports.specs.Reporting.{IsListingFailure};
 ghost use Rattle.acl_listing_lint.specs.LintSteps.{IsBlockDone};
 ghost use Rattle.acl_listing_lint.specs.Lints.{AnswersLints, BeginsLints};
@@ -32,18 +30,6 @@ pub(crate) struct Linting<'n, 't, R: Read + Drop> {
 }
 
 impl<'n, 't, R: Read + Drop> Linting<'n, 't, R> {
-    /// Takes the next block, if there is one.
-    fn advance(&mut self) -> Result<bool, Failure<'n>>
-        ensures name { self.new.name ≡ self.old.name }
-        ensures rest { OnOk result (self.new ≡ record self.old { blocks = self.new.blocks }) }
-        ensures block { IfOk result (λ some. MatchBool some
-            (HandsOut self.old.blocks.coming self.new.blocks.block self.new.blocks.coming)
-            (IsOver self.old.blocks.coming)) }
-        ensures failed { IfErr result (IsListingFailure self.old.name.now) }
-    {
-        advance(self.name, &mut self.blocks)
-    }
-
     /// Reports of the block at hand.
     fn report_here(
         &mut self,
@@ -85,31 +71,13 @@ impl<'n, 't, R: Read + Drop> Linting<'n, 't, R> {
 
 impl<'n, 't, R: Read + Drop> Reporting<'n> for Linting<'n, 't, R> {
     ghost use Rattle.acl_reports.specs.Reporting.{IsListingFailure};
-    ghost use Rattle.acl_listing_lint.specs.LintSteps.{EndsSo, IsBegun, IsReported};
+    ghost use Rattle.acl_listing_lint.specs.LintSteps.{EndsSo, IsBegun, IsReported, left_of};
 
-    ghost Reports = { λ linting. IsReported (record {
-      asking = record { name = linting.name.now; host = linting.host.now };
-      seen = linting.seen;
-      tally = linting.tally;
-      closed = linting.closed;
-      coming = linting.blocks.coming;
-    }) };
+    ghost Reports = { λ linting. IsReported (left_of linting) };
 
-    ghost Begins = { λ linting. IsBegun (record {
-      asking = record { name = linting.name.now; host = linting.host.now };
-      seen = linting.seen;
-      tally = linting.tally;
-      closed = linting.closed;
-      coming = linting.blocks.coming;
-    }) };
+    ghost Begins = { λ linting. IsBegun (left_of linting) };
 
-    ghost Ends = { λ linting. EndsSo (record {
-      asking = record { name = linting.name.now; host = linting.host.now };
-      seen = linting.seen;
-      tally = linting.tally;
-      closed = linting.closed;
-      coming = linting.blocks.coming;
-    }) };
+    ghost Ends = { λ linting. EndsSo (left_of linting) };
 
     ghost Fails = { λ linting. IsListingFailure linting.name.now };
 
@@ -122,7 +90,7 @@ impl<'n, 't, R: Read + Drop> Reporting<'n> for Linting<'n, 't, R> {
         if self.closed {
             return Ok(false);
         }
-        if self.advance()? {
+        if advance(self.name, &mut self.blocks)? {
             self.report_here(alloc, out, beside)?;
             return Ok(true);
         }

@@ -1,4 +1,4 @@
-use Rattle.std.proofs.Common.{◌≡◌, ◌∙◌, ◌++◌, ◌+◌, ℕ, List, [], ap, append_assoc, append-nil, arith, length, subst, sym}
+use Rattle.std.proofs.Common.{◌∙◌, ◌++◌, ◌+◌, ℕ, List, [], ap, append_assoc, append-nil, arith, length, subst, sym}
 use Rattle.acl_names.specs.Pieces.{pieces}
 use Rattle.acl_listing_lint.specs.Findings.{AreFoundFrom, IsFoundOfAcePiece}
 use Rattle.acl_listing_lint.specs.LintSteps.{view_aces}

@@ -1,4 +1,4 @@
-use Rattle.std.proofs.Common.{◌≡◌, List, subst}
+use Rattle.std.proofs.Common.{List, subst}
 use Rattle.std.proofs.lemmas.Result.{IfOk-weaker}
 use Rattle.acl_nfs4.specs.Ace.{Nfsace4}
 use Rattle.acl_listing_lint.specs.AceEffects.{AcesDecideAlike, nfs4_file}

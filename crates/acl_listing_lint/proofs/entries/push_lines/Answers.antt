@@ -1,4 +1,4 @@
-use Rattle.std.proofs.Common.{◌∙◌, ◌++◌, ℕ, List, [], ap, append_assoc, append-nil, subst, sym}
+use Rattle.std.proofs.Common.{◌∙◌, ◌++◌, [], ap, append_assoc, append-nil, subst, sym}
 use Rattle.acl_names.specs.Bytes.{newline}
 use Rattle.acl_names.specs.Pieces.{parts}
 use Rattle.acl_listing_lint.specs.Findings.{AreFoundFrom, IsFoundInLine, LintAsking}

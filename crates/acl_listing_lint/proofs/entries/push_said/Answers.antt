@@ -33,13 +33,15 @@ loop-piece-preserved c =
       leads = found_more Is (pieces c.args.said.now) c.loop-piece.pieces c.next.new.self piece was.so_far added.text c.in-Some.ensures.piece is was.leads;
     }
 
-pub returns-clause-found : goal.returns-clause-found
-returns-clause-found c =
+pub returns : goal.returns
+returns c =
     let asking : LintAsking = record { name = c.args.name.now; host = c.args.host.now } in
     let Is = IsFoundOfPiece asking (view_list c.args.listed.now) c.args.line in
     let was = c.loop-piece.invariant in
     record {
-      text = was.so_far;
-      is = found_all Is (pieces c.args.said.now) c.loop-piece.pieces was.so_far c.in_default.ensures.piece was.leads;
-      out_is = was.out_is;
+      found = record {
+        text = was.so_far;
+        is = found_all Is (pieces c.args.said.now) c.loop-piece.pieces was.so_far c.in_default.ensures.piece was.leads;
+        out_is = was.out_is;
+      };
     }

@@ -1,13 +1,14 @@
-use Rattle.std.proofs.Common.{rules, ◌≡◌, ◌&&◌, false, [], length, refl, sym, subst}
+use Rattle.std.proofs.Common.{rules, ◌&&◌, false, [], length, sym, subst}
 use Rattle.std.proofs.Math.Seq.{take-length}
 use Rattle.std.specs.Io.KnownBytes.{Appends}
 use Rattle.acl_cli.specs.Commands.{FrontWentOut}
 use Rattle.acl_cli.specs.declared.command.Ending.{Ending}
 use Rattle.acl_listing_changes.specs.Changes.{with_difference}
+use Rattle.acl_reports.proofs.BlocksLemmas.{front_out}
 use Rattle.acl_listing_lint.specs.Findings.{LintAsking}
 use Rattle.acl_listing_lint.specs.Lints.{BeginsLints}
-use Rattle.acl_listing_lint.specs.LintSteps.{IsBegun, Left}
-use Rattle.acl_listing_lint.proofs.LintLemmas.{answers_listing, begins_listing, begins_reported, begun_nothing, ended, front_out}
+use Rattle.acl_listing_lint.specs.LintSteps.{IsBegun, Left, left_of}
+use Rattle.acl_listing_lint.proofs.LintLemmas.{answers_listing, begins_listing, begins_reported, begun_nothing, ended}
 use Rattle.acl_listing_lint.proofs.report.report_listing.Goals as goal
 
 pub report_each-requires : goal.report_each-requires
@@ -37,15 +38,7 @@ returns-then-linting-clause-answered g c =
     let asking : LintAsking = record { name = c.args.name.now; host = c.args.host.now } in
     let bytes = g.R.Read.remaining c.args.reader in
     let (text, said, reported, went, reports, some_is) = c.in_ok-some.ensures.written in
-    let last = c.report_each.new.reporting in
-    let left : Left = record {
-      asking = record { name = last.name.now; host = last.host.now };
-      seen = last.seen;
-      tally = last.tally;
-      closed = last.closed;
-      coming = last.blocks.coming;
-    } in
-    let ends = c.in_ok-some.ensures.ends c.ending.result (ended left c.ending.result c.if-linting.true c.ending.ensures) in
+    let ends = c.in_ok-some.ensures.ends c.ending.result (ended (left_of c.report_each.new.reporting) c.ending.result c.if-linting.true c.ending.ensures) in
     let ending : Ending = with_difference (c.args.asks && c.in_ok-some.some) c.ending.result in
     record {
       answer = record { text = text; beside = said; ending = ending };

@@ -1,11 +1,13 @@
-use Rattle.std.proofs.Common.{◌≡◌, ◌∙◌, List, ℕ, Err, ap, ap₂, inl, inr, refl, rules, subst}
-use Rattle.clap.specs.Words.{Row, found_of, rows_of}
+use Rattle.std.proofs.Common.{◌≡◌, ◌∙◌, List, Option, ℕ, Err, ap, ap₂, inl, inr, refl, rules, subst}
+use Rattle.clap.specs.Words.{Row, Text, found_of, rows_of}
+use Rattle.acl_names.specs.Names.{Names}
+use Rattle.acl_cli.specs.Commands.{Answer}
 use Rattle.acl_cli.proofs.CommandsLemmas.{Comes-as, Comes-failed}
 use Rattle.acl_people.specs.Host.{names_of_host}
-use Rattle.acl_reports.specs.Listed.{AnswersListing, BeginsListing}
+use Rattle.acl_reports.specs.Listed.{AnswersListing, BeginsListing, Part}
 use Rattle.acl_reports.specs.ListingMeaning.{FailsForListing, bytes_named, inputs_of, listing_meaning}
 use Rattle.acl_listing_creation.specs.Next.{NextAsking, next_part}
-use Rattle.acl_listing_creation.specs.NextMeaning.{asking_by, next_meaning}
+use Rattle.acl_listing_creation.specs.NextMeaning.{NextAnswers, asking_by, next_meaning}
 use Rattle.acl_listing_creation.proofs.command.NextCliCommand.answer.Goals as goal
 
 pub returns-in_err-maker : goal.returns-in_err-maker
@@ -39,27 +41,18 @@ returns g c =
       folders_alone = folders_alone;
     }) c.kind_field.ensures c.flag_field.ensures in
     let part = listing_meaning files input c.listing_field.result.now (names_of_host host) (next_part reported) in
+    let meant : (Is : Text → Names → (List (List ℕ) → List ℕ → Part) → Option (List ℕ) → Answer → Type 0) (answer : Answer) → Is c.listing_field.result.now (names_of_host host) (next_part reported) (bytes_named files input c.listing_field.result.now) answer → NextAnswers Is files input rows answer = λ Is answer is. record {
+      host = host;
+      host_is = c.in_ok-host.ensures.opened;
+      maker = maker;
+      maker_is = c.in_ok-maker.ensures.read;
+      modes = modes;
+      modes_are = c.in_ok-modes.ensures.read;
+      is = subst (λ (name : List ℕ). Is name (names_of_host host) (next_part asked) (bytes_named files input name) answer) name_is
+          (subst (λ (asking : NextAsking). Is c.listing_field.result.now (names_of_host host) (next_part asking) (bytes_named files input c.listing_field.result.now) answer) same is);
+    } in
     Comes-as part (next_meaning files input rows) c.report_named.result _ _ _ _ _ _
-    (λ answer is. record {
-      host = host;
-      host_is = c.in_ok-host.ensures.opened;
-      maker = maker;
-      maker_is = c.in_ok-maker.ensures.read;
-      modes = modes;
-      modes_are = c.in_ok-modes.ensures.read;
-      is = subst (λ (name : List ℕ). AnswersListing name (names_of_host host) (next_part asked) (bytes_named files input name) answer) name_is
-          (subst (λ (asking : NextAsking). AnswersListing c.listing_field.result.now (names_of_host host) (next_part asking) (bytes_named files input c.listing_field.result.now) answer) same is);
-    })
-    (λ answer is. record {
-      host = host;
-      host_is = c.in_ok-host.ensures.opened;
-      maker = maker;
-      maker_is = c.in_ok-maker.ensures.read;
-      modes = modes;
-      modes_are = c.in_ok-modes.ensures.read;
-      is = subst (λ (name : List ℕ). BeginsListing name (names_of_host host) (next_part asked) (bytes_named files input name) answer) name_is
-          (subst (λ (asking : NextAsking). BeginsListing c.listing_field.result.now (names_of_host host) (next_part asking) (bytes_named files input c.listing_field.result.now) answer) same is);
-    })
+    (meant AnswersListing) (meant BeginsListing)
     (λ failure fails. inr (rw c.in_ok-modes.ensures.read refl, inr (inr (subst (λ (name : List ℕ). FailsForListing name failure) name_is fails))))
     (λ none. ap inputs_of name_is ∙ none)
     c.report_named.ensures

@@ -1,4 +1,4 @@
-use Rattle.std.proofs.Common.{◌≡◌, ◌∙◌, Bool, List, ℕ, ap, codes, inr, subst}
+use Rattle.std.proofs.Common.{◌∙◌, Bool, List, ℕ, ap, codes, inr, subst}
 use Rattle.clap.specs.Words.{Row, found_of, rows_of}
 use Rattle.acl_cli.specs.Fields.{flag_in}
 use Rattle.acl_cli.proofs.CommandsLemmas.{Comes-as}
