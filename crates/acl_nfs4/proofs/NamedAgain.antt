@@ -1,5 +1,5 @@
 -- An entry that is printed with its ids in decimal is read again, by whatever names.
-use Rattle.std.proofs.Common.{◌≡◌, ◌∙◌, ◌≤◌, ℕ, List, None, Ok, ap, ap₂, codes, decimal, inl, map, refl}
+use Rattle.std.proofs.Common.{◌≡◌, ◌≤◌, ℕ, List, None, Ok, ap₂, codes, decimal, inl, map, refl}
 use Rattle.std.specs.List.{All}
 use Rattle.acl_names.specs.Directory.{Known, gid_of, uid_of}
 use Rattle.acl_names.specs.Ids.{Number, written_id}

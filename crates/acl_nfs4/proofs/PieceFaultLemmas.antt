@@ -7,7 +7,7 @@ use Rattle.acl_names.specs.declared.directory.resolve.NameFault.TheVariants.{Mal
 use Rattle.acl_names.specs.Bytes.{at_sign}
 use Rattle.acl_names.specs.Bits.{has}
 use Rattle.acl_names.specs.Directory.{Known, uid_of, gid_of, fault_of}
-use Rattle.acl_names.specs.Ids.{Written, Name, written_id, has_name_shape, has_domain_shape, id_of_written}
+use Rattle.acl_names.specs.Ids.{Name, written_id, has_name_shape, has_domain_shape, id_of_written}
 use Rattle.acl_names.specs.Names.{resolved}
 use Rattle.acl_names.specs.Pieces.{parts as split_at_byte}
 use Rattle.acl_names.specs.Steps.{◌>>=◌, or_fault}

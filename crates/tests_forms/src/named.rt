@@ -1,19 +1,29 @@
 //! Entries whose names are resolved by whatever knows them, and ids in decimal.
 use acl_forms::{Places, push_short_entry, read_entries};
-use acl_nfs4::{AceFault, push_short_ace, read_aces_by};
+use acl_names::ResolveNames;
+use acl_nfs4::{AceFault, Acl4, NamesInDomain, push_short_ace, read_aces_by};
 use std::alloc::Global;
 use tests_common::{acl4, directory};
+
+fn read<N: ResolveNames>(
+    alloc: Global,
+    freebsd: bool,
+    text: &str,
+    names: &N,
+) -> Result<Acl4, AceFault> {
+    if freebsd {
+        read_entries(alloc, text.as_bytes(), names)
+    } else {
+        read_aces_by(alloc, text.as_bytes(), names)
+    }
+}
 
 /// Whether the text of either form and the text of the project's own form spell one list.
 fn is_same_by_names(alloc: Global, freebsd: bool, text: &str, own: &str) -> Option<bool> {
     let names = directory(alloc)?;
-    let read = if freebsd {
-        read_entries(alloc, text.as_bytes(), &names).ok()?
-    } else {
-        read_aces_by(alloc, text.as_bytes(), &names).ok()?
-    };
+    let list = read(alloc, freebsd, text, &names).ok()?;
     let wanted = acl4(alloc, own)?;
-    Some(read.has_same_entries(&wanted))
+    Some(list.has_same_entries(&wanted))
 }
 
 #[test]
@@ -50,11 +60,7 @@ fn what_entries_say(rt: HostRuntime) {
 
 fn fault_by_names(alloc: Global, freebsd: bool, text: &str) -> Option<AceFault> {
     let names = directory(alloc)?;
-    if freebsd {
-        read_entries(alloc, text.as_bytes(), &names).err()
-    } else {
-        read_aces_by(alloc, text.as_bytes(), &names).err()
-    }
+    read(alloc, freebsd, text, &names).err()
 }
 
 #[test]
@@ -74,6 +80,57 @@ fn texts_that_are_refused(rt: HostRuntime) {
         assert_eq!(rt;
             fault_by_names(rt.alloc(), freebsd, text),
             Some(wanted),
+            "{text}"
+        );
+    }
+}
+
+/// The fault of a text with names in example.org, or whether it spells the list.
+fn in_domain(
+    alloc: Global,
+    freebsd: bool,
+    text: &str,
+    own: &str,
+) -> Option<Result<bool, AceFault>> {
+    let directory = directory(alloc)?;
+    let wanted = acl4(alloc, own)?;
+    match read(
+        alloc,
+        freebsd,
+        text,
+        &NamesInDomain {
+            directory: &directory,
+        },
+    ) {
+        Ok(list) => Some(Ok(list.has_same_entries(&wanted))),
+        Err(fault) => Some(Err(fault)),
+    }
+}
+
+#[test]
+fn names_in_a_domain(rt: HostRuntime) {
+    const ALICE: &str = "A::1000:r";
+    const ROWS: [(bool, &str, Result<bool, AceFault>); 8] = [
+        (false, "A::alice@example.org:r", Ok(true)),
+        (false, "A::alice:r", Ok(true)),
+        (true, "user:alice@example.org:r::allow", Ok(true)),
+        (true, "user:1000:r::allow", Ok(true)),
+        (false, "A::alice@example.com:r", Err(AceFault::UnknownName)),
+        (false, "A::alice@:r", Err(AceFault::Syntax)),
+        (
+            true,
+            "user:alice@example.com:r::allow",
+            Err(AceFault::UnknownName),
+        ),
+        (
+            true,
+            "user:1000@example.org:r::allow",
+            Err(AceFault::Syntax),
+        ),
+    ];
+    for (freebsd, text, wanted) in ROWS {
+        assert!(rt;
+            in_domain(rt.alloc(), freebsd, text, ALICE) == Some(wanted),
             "{text}"
         );
     }
