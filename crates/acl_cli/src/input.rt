@@ -48,9 +48,11 @@ pub fn read_capped<R: Read>(alloc: Global, reader: &mut R, cap: usize) -> Result
         match reader.read(&mut piece[..most]) {
             Ok(0) => return Ok(bytes),
             Ok(count) if count > room => return Err(CapFault::TooLong),
-            Ok(count) => bytes
-                .extend_from_slice(&piece[..count])
-                .map_err(|_| CapFault::Memory)?,
+            Ok(count) => {
+                if bytes.extend_from_slice(&piece[..count]).is_err() {
+                    return Err(CapFault::Memory);
+                }
+            }
             Err(error) if error.kind() == ErrorKind::Interrupted => {}
             Err(_) => return Err(CapFault::Read),
         }

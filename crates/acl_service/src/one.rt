@@ -64,13 +64,11 @@ fn answer_next(
     ensures rest { IfOk result (λ some. MatchBool some
         (length requests.new < length requests.old) (requests.new ≡ [])) }
 {
-    match requests.next(alloc)? {
-        Some(numbered) => {
-            answer_one(alloc, directory, tree, &numbered, printed)?;
-            Ok(true)
-        }
-        None => Ok(false),
-    }
+    let Some(numbered) = requests.next(alloc)? else {
+        return Ok(false);
+    };
+    // The request is dropped at one place, whether it is answered or not.
+    answer_one(alloc, directory, tree, &numbered, printed).and(Ok(true))
 }
 
 /// Applies a request, and prints its answer. A node that is requested is printed without a copy.
@@ -129,13 +127,11 @@ fn apply_next(
     ensures rest { IfOk result (λ some. MatchBool some
         (length requests.new < length requests.old) (requests.new ≡ [])) }
 {
-    match requests.next(alloc)? {
-        Some(numbered) => {
-            tree.apply(alloc, &numbered.request, directory)?;
-            Ok(true)
-        }
-        None => Ok(false),
-    }
+    let Some(numbered) = requests.next(alloc)? else {
+        return Ok(false);
+    };
+    tree.apply(alloc, &numbered.request, directory)
+        .and(Ok(true))
 }
 
 /// Applies the commands of a text to the tree, line by line, and returns the tree that they leave.
