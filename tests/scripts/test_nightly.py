@@ -150,7 +150,7 @@ class Nightly(unittest.TestCase):
         self.write("says", "aclctl: listing: 1 of 2 files name ids without an account, the first is 7 (line 2)\n")
         self.assertEqual(self.run_script("--quiet"), (0, [], []))
         status, _, said = self.run_script()
-        self.assertEqual((status, len(said)), (0, 2))
+        self.assertEqual((status, said), (0, ["vanished: /srv/x"]))
         self.share(a="rw-", b="r--")
         status, lines, said = self.run_script("--quiet")
         self.assertEqual((status, len(lines), len(said)), (5, 1, 3))
