@@ -15,11 +15,12 @@
  * in place. Lengths are below 2^63 bytes. No proof can check any of this: the caller must.
  *
  * Memory. Some calls never take memory. Others take none if lists are short: no POSIX list has more than 8 entries (68 bytes), and no
- * NFSv4 list, neither one that goes in nor one that comes out, more than 16. Texts and to_xdr may take memory for any list.
+ * NFSv4 list, neither one that goes in nor one that comes out, more than 16. Texts may take memory for any list.
  *   never:      the checks (posix_check, posix_check_linux, nfs4_check, nfs4_allowed, nfs4_decide, nfs4_grants, the three may_delete),
- *               nfs4_valid, nfs4_mode, nfs4_compare, nfs4_from_xdr, the three nfs4_xdr_, both of_mode, error_name, errno, version
+ *               nfs4_valid, nfs4_mode, nfs4_compare, nfs4_from_xdr, nfs4_to_xdr, the three nfs4_xdr_, both of_mode, error_name, errno,
+ *               version
  *   if long:    posix_valid, _mode, _canonical, _chmod, _create, _compare, _to_nfs4, _default_to_nfs4; nfs4_chmod, _inherit, _create
- *   any list:   the four calls on texts, nfs4_to_xdr
+ *   any list:   the four calls on texts
  * A call that takes memory calls malloc or realloc, frees all of it before it returns, and returns MEARDWYN_NO_MEMORY if it gets none.
  * malloc, realloc and free are those of one allocator, which aligns as C demands.
  *

@@ -70,7 +70,7 @@ static int call(int which)
     case 25: return meardwyn_nfs4_chmod(aces, n < 120 ? n : 120, 0640, MEARDWYN_CHMOD_KEEP, out, 128, &needed);
     case 16: return meardwyn_nfs4_to_text(aces, n, text, sizeof text, &needed);
     case 17: return meardwyn_posix_to_text(b.at, b.length, text, sizeof text, &needed);
-    case 19: return meardwyn_nfs4_to_xdr(aces, n, bytes, sizeof bytes, &needed) == MEARDWYN_NO_MEMORY ? MEARDWYN_NO_MEMORY : 0;
+    case 19: return meardwyn_nfs4_to_xdr(aces, n, bytes, sizeof bytes, &needed) == MEARDWYN_NO_ROOM ? 0 : (int)needed;
     case 20: return meardwyn_nfs4_create(folder, n, &making, out, 128, &needed, &mode);
     case 21: return meardwyn_nfs4_of_mode(0640, 1, out, 128, &needed);
     case 22: return meardwyn_nfs4_may_delete(aces, n, &file, 1, aces, n, &file, 3, gids, 2, &error) ? 1 : error;
@@ -88,7 +88,7 @@ enum { CALLS = 30, FREE_OF_MEMORY = 15 };
 /* Whether a call never takes memory; and whether it takes none for so few entries, of which a mode makes some more. */
 static int is_free(int which)
 {
-    return which == 0 || (which >= 9 && which <= 12) || which == 14 || (which >= 21 && which <= 24) || which >= 27;
+    return which == 0 || (which >= 9 && which <= 12) || which == 14 || which == 19 || (which >= 21 && which <= 24) || which >= 27;
 }
 static int is_free_for(int which, int nfs4) { return which < FREE_OF_MEMORY || which == 25 || (which == 20 && nfs4 < 6); }
 

@@ -18,12 +18,12 @@ ghost use Rattle.acl_wire.specs.Shown.{mode_shown};
 ghost use Rattle.acl_wire.specs.XdrRaws.{xdr_raws_of};
 ghost use Rattle.acl_wire.specs.XdrWriting.{raws_xdr_of};
 
-use crate::buffers::{put_bytes, put_raws};
-use crate::status::{nfs4_error_number, nfs4_number as nfs4_fault_number, no_room};
+use crate::buffers::{put_raws, report_count};
+use crate::status::{nfs4_error_number, nfs4_number as nfs4_fault_number};
 use acl_nfs4::Kind;
 use acl_wire::{
     Decided, RawAce, put_xdr_raws, raws_allow, raws_decide, raws_fault, raws_grant, raws_inherited,
-    raws_mode, raws_with_mode, raws_xdr,
+    raws_mode, raws_with_mode, write_xdr,
 };
 use std::alloc::Global;
 
@@ -216,27 +216,18 @@ pub extern "C" fn meardwyn_nfs4_from_xdr(xdr: &[u8], out: &mut [RawAce], needed:
     ensures { PutsItems (xdr_raws_of xdr.now) result out.old out.new needed.old needed.new }
 {
     match put_xdr_raws(xdr, out) {
-        Ok(count) => {
-            *needed = count;
-            if count <= out.len() { 0 } else { no_room() }
-        }
+        Ok(count) => report_count(count, out.len(), needed),
         Err(fault) => nfs4_fault_number(fault),
     }
 }
 
 /// The list in XDR.
 #[unsafe(no_mangle)]
-pub extern "C" fn meardwyn_nfs4_to_xdr(
-    alloc: Global,
-    aces: &[RawAce],
-    out: &mut [u8],
-    needed: &mut usize,
-) -> i32
-    ensures { PutsAnswer nfs4_number itself (raws_xdr_of aces.now) result out.old out.new needed.old
-        needed.new }
+pub extern "C" fn meardwyn_nfs4_to_xdr(aces: &[RawAce], out: &mut [u8], needed: &mut usize) -> i32
+    ensures { PutsItems (raws_xdr_of aces.now) result out.old out.new needed.old needed.new }
 {
-    match raws_xdr(alloc, aces) {
-        Ok(xdr) => put_bytes(&xdr, out, needed),
-        Err(error) => nfs4_error_number(error),
+    match write_xdr(aces, out) {
+        Ok(count) => report_count(count, out.len(), needed),
+        Err(fault) => nfs4_fault_number(fault),
     }
 }

@@ -5,8 +5,8 @@ ghost use Rattle.acl_c.specs.Answers.{Puts, PutsItems};
 ghost use Rattle.acl_c.specs.Entries.{ReportsEntry};
 ghost use Rattle.acl_wire.specs.XdrNames.{entry_of, next_of};
 
-use crate::buffers::put_bytes;
-use crate::status::{nfs4_number, no_room};
+use crate::buffers::{put_bytes, report_count};
+use crate::status::nfs4_number;
 use acl_wire::{RawAce, XdrPlace, put_xdr_entry, xdr_next};
 
 /// The next entry of a list in XDR: 1, or 0 if none is left.
@@ -47,10 +47,7 @@ pub extern "C" fn meardwyn_nfs4_xdr_put(
     ensures { PutsItems (entry_of ace.now name.now) result out.old out.new needed.old needed.new }
 {
     match put_xdr_entry(ace, name, out) {
-        Ok(count) => {
-            *needed = count;
-            if count <= out.len() { 0 } else { no_room() }
-        }
+        Ok(count) => report_count(count, out.len(), needed),
         Err(fault) => nfs4_number(fault),
     }
 }

@@ -28,7 +28,6 @@ pub mod NobodyLemmas
 pub mod XdrLoop
 pub mod XdrRawsLoop
 pub mod XdrDraftLoop
-pub mod KeptLoop
 pub mod XdrKeptAgain
 pub mod PlacesLoop
 pub mod KeepingLemmas
@@ -39,3 +38,4 @@ pub mod CompareLemmas
 pub mod ShownLemmas
 pub mod EntryLemmas
 pub mod NamesAgain
+pub mod XdrPutLemmas

@@ -1,7 +1,6 @@
 -- Entries in XDR read into a list one after the other, as a loop does.
 use Rattle.std.proofs.Common.{◌≡◌, ◌∙◌, ℕ, suc, ◌-◌, ◌+◌, ◌≤◌, ◌<◌, List, [], ◌∷◌, ◌++◌, Ok, Err, refl, sym, ap, arith}
 use Rattle.std.proofs.lemmas.List.{append-nil}
-use Rattle.acl_names.specs.Steps.{◌>>=◌}
 use Rattle.acl_nfs4.specs.Ace.{Nfsace4}
 use Rattle.acl_wire.specs.Decision.{value_of}
 use Rattle.acl_wire.specs.Written.{tidied_raw}

@@ -28,3 +28,4 @@ pub mod XdrRaws
 pub mod XdrWriting
 pub mod XdrWritten
 pub mod XdrNames
+pub mod XdrWritingSteps

@@ -57,4 +57,4 @@ pub use xdr::acl4_of_xdr;
 pub use xdr_entry::put_xdr_entry;
 pub use xdr_names::{BY_NAME, XdrPlace, xdr_next};
 pub use xdr_raws::put_xdr_raws;
-pub use xdr_writing::raws_xdr;
+pub use xdr_writing::write_xdr;

@@ -1,18 +1,41 @@
-//! An entry of a list in XDR with its name, in a caller's buffer. It takes no memory.
+//! An entry of a list in XDR, with its name if it has one, in a caller's buffer. It takes no memory.
 
-ghost use Rattle.std.specs.Prelude.{◌≡◌, ◌≤◌, ◌++◌, decimal, drop, length};
+ghost use Rattle.std.specs.Prelude.{◌≡◌, ◌≤◌, ◌++◌, ◌-◌, decimal, drop, length, replicate};
 ghost use Rattle.std.specs.Int.{w32, to_be_bytes};
 ghost use Rattle.acl_wire.specs.Writing.{PutsInFront};
+ghost use Rattle.acl_wire.specs.Xdr.{padded};
 ghost use Rattle.acl_wire.specs.XdrNames.{entry_bytes, entry_of, named_bytes};
 ghost use Rattle.acl_wire.specs.XdrRaws.{PutsItems};
+ghost use Rattle.acl_wire.specs.XdrWritingSteps.{raw_bytes};
 
+use crate::raw_ace::tidied;
 use crate::xattr_writing::put_at;
 use crate::xdr::padded;
-use crate::xdr_names::{BY_NAME, checked, tidied_named, whom};
-use crate::xdr_writing::{lacking, zeros};
+use crate::xdr_names::{BY_NAME, HEAD_LEN, checked, tidied_named, whom};
 use crate::{Nfs4Fault, RawAce};
-use acl_nfs4::Who;
 use itoa::Buffer;
+
+/// So many zeros, at most 3.
+fn zeros(count: usize) -> &'static [u8]
+    requires { count ≤ 3 }
+    ensures { result.now ≡ replicate count 0 }
+{
+    match count {
+        0 => &[],
+        1 => &[0],
+        2 => &[0, 0],
+        _ => &[0, 0, 0],
+    }
+}
+
+/// How many zeros fill a string of this length up.
+fn lacking(len: usize) -> usize
+    requires { len ≤ 0xffffffff }
+    ensures value { result ≡ padded len - len }
+    ensures few { result ≤ 3 }
+{
+    padded(len) - len
+}
 
 /// The bytes in front of a string: the entry's numbers, and the string's length.
 fn head(raw: &RawAce, len: u32) -> [u8; 16]
@@ -29,6 +52,7 @@ fn head(raw: &RawAce, len: u32) -> [u8; 16]
     ]
 }
 
+#[inline(always)]
 fn fill(raw: &RawAce, text: &[u8], out: &mut [u8])
     requires few { length text.now ≤ 0xffffffff }
     requires room { length (entry_bytes raw.now text.now) ≤ length out.old }
@@ -36,51 +60,44 @@ fn fill(raw: &RawAce, text: &[u8], out: &mut [u8])
         ++ drop (length (entry_bytes raw.now text.now)) out.old }
 {
     put_at(out, 0, &head(raw, text.len() as u32));
-    put_at(out, 16, text);
-    put_at(out, 16 + text.len(), zeros(lacking(text.len())));
+    put_at(out, HEAD_LEN, text);
+    put_at(out, HEAD_LEN + text.len(), zeros(lacking(text.len())));
 }
 
 /// Puts the entry with this string in front of the buffer, if there is room for it.
+#[inline(always)]
 fn put_entry(raw: &RawAce, text: &[u8], out: &mut [u8]) -> usize
     requires { length text.now ≤ 0xffffffff }
     ensures { PutsInFront (entry_bytes raw.now text.now) result out.old out.new }
 {
-    let len = 16 + padded(text.len());
+    let len = HEAD_LEN + padded(text.len());
     if len <= out.len() {
         fill(raw, text, out);
     }
     len
 }
 
-/// Puts an entry in XDR in front of `out`, if it has room for it, and else leaves `out` as it was.
-/// The answer is how many bytes the entry has, or why it is none.
-///
-/// If its special number is `BY_NAME`, its who is this name, which is the fault `UnknownName`
-/// unless `xdr_next` reads it as one. Of any other entry the name plays no part.
-#[tactic(auto, unfolding(crate::specs::XdrNames::entry_of))]
-pub fn put_xdr_entry(raw: &RawAce, name: &[u8], out: &mut [u8]) -> Result<usize, Nfs4Fault>
-    ensures { PutsItems (entry_of raw.now name.now) result out.old out.new }
-{
-    let ace = checked(raw)?;
-    let numbers = tidied_named(raw);
-    if raw.special == BY_NAME {
-        return put_named(&numbers, name, out);
-    }
-    let len = match ace.who() {
-        Who::Owner => put_entry(&numbers, b"OWNER@", out),
-        Who::Group => put_entry(&numbers, b"GROUP@", out),
-        Who::Everyone => put_entry(&numbers, b"EVERYONE@", out),
-        Who::User(uid) => put_id(&numbers, uid.value(), out),
-        Who::NamedGroup(gid) => put_id(&numbers, gid.value(), out),
-    };
-    Ok(len)
-}
-
 /// Puts the entry with this id.
+#[inline(always)]
 fn put_id(raw: &RawAce, id: u32, out: &mut [u8]) -> usize
     ensures { PutsInFront (entry_bytes raw.now (decimal id)) result out.old out.new }
 {
     put_entry(raw, Buffer::new().format(id).as_bytes(), out)
+}
+
+/// Puts the entry of these numbers, which can be decided by, in front of the buffer, if there is
+/// room for it.
+#[inline(always)]
+pub(crate) fn put_raw(raw: &RawAce, out: &mut [u8]) -> usize
+    ensures { PutsInFront (raw_bytes raw.now) result out.old out.new }
+{
+    let numbers = tidied(raw);
+    match raw.special {
+        1 => put_entry(&numbers, b"OWNER@", out),
+        2 => put_entry(&numbers, b"GROUP@", out),
+        3 => put_entry(&numbers, b"EVERYONE@", out),
+        _ => put_id(&numbers, raw.id, out),
+    }
 }
 
 /// Puts the entry with this name, if it is one.
@@ -92,4 +109,20 @@ fn put_named(raw: &RawAce, name: &[u8], out: &mut [u8]) -> Result<usize, Nfs4Fau
         return Err(Nfs4Fault::UnknownName);
     }
     Ok(put_entry(raw, name, out))
+}
+
+/// Puts an entry in XDR in front of `out`, if it has room for it, and else leaves `out` as it was.
+/// The answer is how many bytes the entry has, or why it is none.
+///
+/// If its special number is `BY_NAME`, its who is this name, which is the fault `UnknownName`
+/// unless `xdr_next` reads it as one. Of any other entry the name plays no part.
+#[tactic(auto, unfolding(crate::specs::XdrNames::entry_of))]
+pub fn put_xdr_entry(raw: &RawAce, name: &[u8], out: &mut [u8]) -> Result<usize, Nfs4Fault>
+    ensures { PutsItems (entry_of raw.now name.now) result out.old out.new }
+{
+    checked(raw)?;
+    if raw.special == BY_NAME {
+        return put_named(&tidied_named(raw), name, out);
+    }
+    Ok(put_raw(raw, out))
 }

@@ -17,7 +17,7 @@ use acl_nfs4::Ace;
 pub const BY_NAME: u32 = 4;
 
 /// Bytes of an entry in front of its who.
-const HEAD_LEN: usize = 16;
+pub(crate) const HEAD_LEN: usize = 16;
 
 /// Where the entries of a list in XDR are read. All is 0 before the first.
 #[repr(C)]

@@ -1,125 +1,114 @@
-//! NFSv4 lists written in XDR (RFC 4506).
+//! NFSv4 lists written in XDR (RFC 4506) in a caller's buffer. It takes no memory: the entries are
+//! read once to know that they are a list and how long its bytes are, and once more to put them.
 
-ghost use Rattle.std.specs.Prelude.{◌≡◌, ◌≤◌, ◌<◌, ◌^◌, ◌++◌, ◌-◌, length, replicate, decimal};
-ghost use Rattle.std.specs.Prelude.{OnOk};
-ghost use Rattle.std.specs.Int.{w32, to_be_bytes};
-ghost use Rattle.acl_wire.specs.RawAces.{Answers};
-ghost use Rattle.acl_wire.specs.Kept.{kept_ace};
-ghost use Rattle.acl_wire.specs.XdrWriting.{ace_bytes, behind, filled, raws_bytes};
-ghost use Rattle.acl_wire.specs.XdrWriting.{raws_xdr_of, text_bytes, who_text};
+ghost use Rattle.std.specs.Prelude.{◌≡◌, ◌≤◌, ◌<◌, ◌+◌, ◌*◌, ◌^◌, ◌++◌, decimal, drop, length, take};
+ghost use Rattle.std.specs.List.{flat_map};
+ghost use Rattle.acl_wire.specs.Writing.{PutsInFront};
 ghost use Rattle.acl_wire.specs.Xdr.{padded};
+ghost use Rattle.acl_wire.specs.XdrRaws.{PutsItems};
+ghost use Rattle.acl_wire.specs.XdrWriting.{raws_xdr_of};
+ghost use Rattle.acl_wire.specs.XdrWritingSteps.{list_bytes, raw_bytes, text_by};
 
-use crate::raw_ace::{tidied, value_of};
-use crate::raw_writing::kind_number;
-use crate::xdr::padded;
-use crate::{Nfs4Error, Nfs4Fault, RawAce};
-use acl_nfs4::{Ace, Who};
-use itoa::Buffer;
-use std::alloc::{AllocError, Global};
+use crate::values::raws_fault;
+use crate::xattr_writing::put_at;
+use crate::xdr_entry::put_raw;
+use crate::xdr_names::HEAD_LEN;
+use crate::{Nfs4Fault, RawAce};
 
-/// The most bytes of an entry without a name: of `EVERYONE@`, or of an id of nine or ten digits.
-const MOST_ENTRY_LEN: usize = 28;
+/// The bytes of the number of entries.
+const COUNT_LEN: usize = 4;
 
-/// Appends the number in four bytes, highest first.
-fn push_number(number: u32, out: &mut Vec<u8>) -> Result<(), AllocError>
-    ensures { OnOk result (out.new.items ≡ out.old.items ++ to_be_bytes w32 number) }
+/// How many bytes an id takes in decimal, up to a whole group of four.
+#[inline(always)]
+fn id_len(id: u32) -> usize
+    ensures value { result ≡ padded (length (decimal id)) }
+    ensures few { result ≤ 12 }
 {
-    out.extend_from_slice(&number.to_be_bytes())
-}
-
-/// So many zeros, at most 3.
-pub(crate) fn zeros(count: usize) -> &'static [u8]
-    requires { count ≤ 3 }
-    ensures { result.now ≡ replicate count 0 }
-{
-    match count {
-        0 => &[],
-        1 => &[0],
-        2 => &[0, 0],
-        _ => &[0, 0, 0],
+    if id < 10_000 {
+        4
+    } else if id < 100_000_000 {
+        8
+    } else {
+        12
     }
 }
 
-/// How many zeros fill a string of this length up.
-pub(crate) fn lacking(len: usize) -> usize
-    requires { len ≤ 0xffffffff }
-    ensures value { result ≡ padded len - len }
-    ensures few { result ≤ 3 }
+/// How many bytes the string that says who takes, up to a whole group of four.
+#[inline(always)]
+fn text_len(raw: &RawAce) -> usize
+    ensures value { result ≡ padded (length (text_by raw.now.special raw.now.id)) }
+    ensures few { result ≤ 12 }
 {
-    padded(len) - len
-}
-
-/// Appends the bytes of the string, and what fills it up.
-fn push_filled(text: &[u8], out: &mut Vec<u8>) -> Result<(), AllocError>
-    requires { length text.now ≤ 0xffffffff }
-    ensures { OnOk result (out.new.items ≡ out.old.items ++ filled text.now) }
-{
-    out.extend_from_slice(text)?;
-    out.extend_from_slice(zeros(lacking(text.len())))
-}
-
-/// Appends the string.
-fn push_text(text: &[u8], out: &mut Vec<u8>) -> Result<(), AllocError>
-    requires { length text.now ≤ 0xffffffff }
-    ensures { OnOk result (out.new.items ≡ out.old.items ++ text_bytes text.now) }
-{
-    push_number(text.len() as u32, out)?;
-    push_filled(text, out)
-}
-
-/// Appends the id as a string.
-fn push_id(id: u32, out: &mut Vec<u8>) -> Result<(), AllocError>
-    ensures { OnOk result (out.new.items ≡ out.old.items ++ text_bytes (decimal id)) }
-{
-    push_text(Buffer::new().format(id).as_bytes(), out)
-}
-
-/// Appends the who as a string.
-fn push_who(who: &Who, out: &mut Vec<u8>) -> Result<(), AllocError>
-    ensures { OnOk result (out.new.items ≡ out.old.items ++ text_bytes (who_text who.now)) }
-{
-    match *who {
-        Who::Owner => push_text(b"OWNER@", out),
-        Who::Group => push_text(b"GROUP@", out),
-        Who::Everyone => push_text(b"EVERYONE@", out),
-        Who::User(uid) => push_id(uid.value(), out),
-        Who::NamedGroup(gid) => push_id(gid.value(), out),
+    match raw.special {
+        1 => 8,
+        2 => 8,
+        3 => 12,
+        _ => id_len(raw.id),
     }
 }
 
-/// Appends the entry of these numbers, with all its bits that have a meaning.
-fn push_kept(raw: &RawAce, ace: &Ace, out: &mut Vec<u8>) -> Result<(), AllocError>
-    ensures { OnOk result (out.new.items ≡ out.old.items ++ ace_bytes (kept_ace raw.now ace.now)) }
-{
-    push_number(kind_number(ace.kind()), out)?;
-    push_number(tidied(raw).flags, out)?;
-    push_number(raw.mask, out)?;
-    push_who(&ace.who(), out)
-}
-
-/// So many entries in XDR.
-fn written(alloc: Global, raws: &[RawAce]) -> Result<Vec<u8>, Nfs4Error>
+/// How many bytes the entries take.
+fn entries_len(raws: &[RawAce]) -> usize
     requires { length raws.now < 2 ^ 32 }
-    ensures { Answers (λ xdr. xdr.items) result
-        (behind (to_be_bytes w32 (length raws.now)) (raws_bytes raws.now)) }
+    ensures value { result ≡ length (flat_map raw_bytes raws.now) }
+    ensures few { result ≤ 28 * length raws.now }
 {
-    let mut out = Vec::with_capacity(alloc, 4 + MOST_ENTRY_LEN * raws.len())?;
-    push_number(raws.len() as u32, &mut out)?;
+    let mut len = 0;
     for raw in raws {
-        let ace = value_of(raw)?;
-        push_kept(raw, &ace, &mut out)?;
+        len += HEAD_LEN + text_len(raw);
     }
-    Ok(out)
+    len
 }
 
-/// The NFSv4 list of the entries in XDR, as `put_xdr_raws` reads it. All bits stay that have a
-/// meaning; more entries than XDR can count are the fault `TooMany`.
+/// Puts the entry at a place where there is room for it. The answer is the place behind it.
+#[inline(always)]
+fn put_raw_at(raw: &RawAce, out: &mut [u8], at: usize) -> usize
+    requires { at + length (raw_bytes raw.now) ≤ length out.old }
+    ensures put { out.new ≡ take at out.old
+        ++ (raw_bytes raw.now ++ drop (at + length (raw_bytes raw.now)) out.old) }
+    ensures end { result ≡ at + length (raw_bytes raw.now) }
+{
+    at + put_raw(raw, &mut out[at..])
+}
+
+/// Puts the entries behind their number, where there is room for all.
+fn put_all(raws: &[RawAce], out: &mut [u8])
+    requires few { length raws.now < 2 ^ 32 }
+    requires room { length (list_bytes raws.now) ≤ length out.old }
+    ensures { out.new ≡ list_bytes raws.now ++ drop (length (list_bytes raws.now)) out.old }
+{
+    put_at(out, 0, &(raws.len() as u32).to_be_bytes());
+    let mut at = COUNT_LEN;
+    for raw in raws {
+        at = put_raw_at(raw, out, at);
+    }
+}
+
+/// Puts the list in front of the buffer, if there is room for it.
+fn put_list(raws: &[RawAce], out: &mut [u8]) -> usize
+    requires { length raws.now < 2 ^ 32 }
+    ensures { PutsInFront (list_bytes raws.now) result out.old out.new }
+{
+    let len = COUNT_LEN + entries_len(raws);
+    if len <= out.len() {
+        put_all(raws, out);
+    }
+    len
+}
+
+/// Puts the NFSv4 list of the entries in XDR, as `put_xdr_raws` reads it, in front of `out`, if it
+/// has room for it, and else leaves `out` as it was. The answer is how many bytes the list has, or
+/// what is wrong with the first entry that can't be decided by. More entries than XDR can count are
+/// the fault `TooMany`, before all others. All bits stay that have a meaning.
 #[tactic(auto, unfolding(crate::specs::XdrWriting::raws_xdr_of))]
-pub fn raws_xdr(alloc: Global, raws: &[RawAce]) -> Result<Vec<u8>, Nfs4Error>
-    ensures { Answers (λ xdr. xdr.items) result (raws_xdr_of raws.now) }
+pub fn write_xdr(raws: &[RawAce], out: &mut [u8]) -> Result<usize, Nfs4Fault>
+    ensures { PutsItems (raws_xdr_of raws.now) result out.old out.new }
 {
     if raws.len() > u32::MAX as usize {
-        return Err(Nfs4Error::Fault(Nfs4Fault::TooMany));
+        return Err(Nfs4Fault::TooMany);
     }
-    written(alloc, raws)
+    if let Some(fault) = raws_fault(raws) {
+        return Err(fault);
+    }
+    Ok(put_list(raws, out))
 }

@@ -6,7 +6,7 @@ use acl_wire::{
     Decided, Making, Nfs4Error, Nfs4Fault, Purpose, RawAce, RawAsker, RawDifference, acl4_of_mode,
     acl4_of_xdr, mode_made, put_xdr_raws, raws_allow, raws_created, raws_decide, raws_delete,
     raws_difference, raws_fault, raws_grant, raws_inherited, raws_mode, raws_text, raws_with_mode,
-    raws_xdr, read_raw_aces, write_raw_aces,
+    read_raw_aces, write_raw_aces, write_xdr,
 };
 use std::alloc::Global;
 
@@ -73,10 +73,53 @@ fn bits_that_stay(rt: HostRuntime) {
     assert_eq!(rt; put_xdr_raws(&bytes[..47], &mut out), Err(Nfs4Fault::Size));
 }
 
-/// Whether the entries are written as the bytes.
-fn is_written(alloc: Global) -> Option<bool> {
-    let xdr = raws_xdr(alloc, &RAWS).ok()?;
-    Some(xdr.as_slice() == BYTES.as_slice())
+/// The entries are written as the bytes, with nothing behind them; and not at all where they have no
+/// room, or where one of them is none.
+#[test]
+fn a_list_is_written(rt: HostRuntime) {
+    let mut out = [0xaa; 49];
+    assert_eq!(rt; write_xdr(&RAWS, &mut out), Ok(48));
+    assert!(rt; &out[..48] == BYTES.as_slice());
+    assert_eq!(rt; out[48], 0xaa);
+    let mut small = [0xaa; 47];
+    assert_eq!(rt; write_xdr(&RAWS, &mut small), Ok(48));
+    assert!(rt; small == [0xaa; 47]);
+    let none = [
+        RAWS[0],
+        RawAce {
+            special: 4,
+            ..RAWS[1]
+        },
+    ];
+    assert_eq!(rt; write_xdr(&none, &mut small), Err(Nfs4Fault::Who));
+    assert!(rt; small == [0xaa; 47]);
+}
+
+/// Whether a list of an entry with this id has so many bytes, from which it is read again.
+fn takes(id: u32, len: usize) -> bool {
+    let raws = [RawAce { id, ..RAWS[1] }];
+    let mut out = [0; 32];
+    if len > 32 || write_xdr(&raws, &mut out) != Ok(len) {
+        return false;
+    }
+    let mut read = [NOTHING];
+    put_xdr_raws(&out[..len], &mut read) == Ok(1) && read[0] == raws[0]
+}
+
+/// 20 bytes, and the digits of the id in whole groups of four.
+#[test]
+fn ids_in_whole_groups_of_four(rt: HostRuntime) {
+    const ROWS: [(u32, usize); 6] = [
+        (0, 24),
+        (9_999, 24),
+        (10_000, 28),
+        (99_999_999, 28),
+        (100_000_000, 32),
+        (4_294_967_294, 32),
+    ];
+    for (id, len) in ROWS {
+        assert!(rt; takes(id, len));
+    }
 }
 
 /// Whether the entries are those of the text.
@@ -88,7 +131,6 @@ fn is_reported(alloc: Global) -> Option<bool> {
 #[test]
 fn a_list_in_bytes(rt: HostRuntime) {
     assert!(rt; is_read(rt.alloc()) == Some(true));
-    assert!(rt; is_written(rt.alloc()) == Some(true));
     assert!(rt; is_reported(rt.alloc()) == Some(true));
 }
 
