@@ -1,4 +1,4 @@
-//! An entry of a list in XDR, with its name if it has one, in a caller's buffer. It takes no memory.
+//! An entry of a list in XDR, maybe with its name, in a caller's buffer. It takes no memory.
 
 ghost use Rattle.std.specs.Prelude.{◌≡◌, ◌≤◌, ◌++◌, ◌-◌, decimal, drop, length, replicate};
 ghost use Rattle.std.specs.Int.{w32, to_be_bytes};

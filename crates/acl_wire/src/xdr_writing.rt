@@ -1,7 +1,8 @@
 //! NFSv4 lists written in XDR (RFC 4506) in a caller's buffer. It takes no memory: the entries are
 //! read once to know that they are a list and how long its bytes are, and once more to put them.
 
-ghost use Rattle.std.specs.Prelude.{◌≡◌, ◌≤◌, ◌<◌, ◌+◌, ◌*◌, ◌^◌, ◌++◌, decimal, drop, length, take};
+ghost use Rattle.std.specs.Prelude.{◌≡◌, ◌≤◌, ◌<◌, ◌+◌, ◌*◌, ◌^◌, ◌++◌, decimal, drop, length};
+ghost use Rattle.std.specs.Prelude.{take};
 ghost use Rattle.std.specs.List.{flat_map};
 ghost use Rattle.acl_wire.specs.Writing.{PutsInFront};
 ghost use Rattle.acl_wire.specs.Xdr.{padded};

@@ -73,8 +73,8 @@ fn bits_that_stay(rt: HostRuntime) {
     assert_eq!(rt; put_xdr_raws(&bytes[..47], &mut out), Err(Nfs4Fault::Size));
 }
 
-/// The entries are written as the bytes, with nothing behind them; and not at all where they have no
-/// room, or where one of them is none.
+/// The entries are written as the bytes, with nothing behind them; and not at all if there is no
+/// room for them, or if one of them is none.
 #[test]
 fn a_list_is_written(rt: HostRuntime) {
     let mut out = [0xaa; 49];
