@@ -47,9 +47,11 @@ returns g c =
     ∙ ap (λ rules. record { names = names_of_host host; rules = rules; persons = persons; question = asked_for; reach = c.reach_field.result }) c.rules_field.ensures
     ∙ ap (λ reach. record { names = names_of_host host; rules = rules_in rows; persons = persons; question = asked_for; reach = reach }) c.reach_field.ensures in
     let part = naming_meaning files input name (names_of_host host) (who_part reported) (stranger_in host) in
-    let meant : (Is : Text → Names → (List (List ℕ) → List ℕ → Part) → (List ℕ → Option Stranger) → Option (List ℕ) → Answer → Type 0) (answer : Answer) → Is name (names_of_host host) (who_part reported) (stranger_in host) (bytes_named files input name) answer → WhoAnswers Is files input rows answer = λ Is answer is. (asked,
+    let meant : (Is : Text → Names → (List (List ℕ) → List ℕ → Part) → (List ℕ → Option Stranger) → Option (List ℕ) → Answer → Type 0) (answer : Answer) → Is name (names_of_host host) (who_part reported) (stranger_in host) (bytes_named files input name) answer → WhoAnswers Is files input rows answer = λ Is answer is. (
+      asked,
       subst (λ (name : List ℕ). Is name (names_of_host host) (who_part asking) (stranger_in host) (bytes_named files input name) answer) name_is
-      (subst (λ (asking : Asking). Is name (names_of_host host) (who_part asking) (stranger_in host) (bytes_named files input name) answer) asking_is is)) in
+          (subst (λ (asking : Asking). Is name (names_of_host host) (who_part asking) (stranger_in host) (bytes_named files input name) answer) asking_is is),
+    ) in
     Comes-as part (who_meaning files input rows) c.report_who.result _ _ _ _ _ _
     (meant AnswersNaming) (meant BeginsNaming)
     (λ failure fails. inr (rw c.in_ok-asked.ensures.read refl, inr (inr (subst (λ (name : List ℕ). FailsForListing name failure) name_is fails))))
