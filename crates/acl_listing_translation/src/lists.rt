@@ -1,7 +1,9 @@
 //! The NFSv4 list of a file.
 ghost use Rattle.std.specs.Prelude.{◌≡◌, ◌++◌, ◌∷◌, [], IfOk, OnOk};
+ghost use Rattle.acl_posix.specs.Linux.{linux_list};
 ghost use Rattle.acl_nfs4.specs.Ace.{ace_of};
 ghost use Rattle.acl_nfs4.specs.declared.ace.AceType.TheVariants.{Allow};
+ghost use Rattle.acl_bridge.specs.Translation.{translation};
 ghost use Rattle.acl_listings.specs.Faults.{ReadsAs};
 ghost use Rattle.acl_listings.specs.declared.lists.Lists.TheVariants.{Posix};
 ghost use Rattle.acl_listing_translation.specs.Translated.{aces_of, as_list, attributes_if};
@@ -41,6 +43,7 @@ fn own(acl: Acl4) -> Result<Acl4, FileFault>
     Ok(acl)
 }
 
+/// The translation of these lists. Each is dropped where it has been translated.
 fn translated(
     alloc: Global,
     attributes: bool,
@@ -49,15 +52,30 @@ fn translated(
 ) -> Result<Acl4, FileFault>
     ensures { ReadsAs (as_list (aces_of attributes (Posix access default))) result }
 {
-    let mut acl = translate(alloc, &access.for_linux(alloc)?)?;
     let below = below_of(alloc, default)?;
+    let acl = translation_of(alloc, access)?;
     let besides = attributes_if(alloc, attributes)?;
-    if acl.aces().len() + below.aces().len() + besides.aces().len() > MAX_ACES {
+    joined(acl, below.aces(), besides.aces())
+}
+
+/// The list with these entries behind its own. Fails if it would have more than 128 entries, and if
+/// memory runs out.
+fn joined(mut acl: Acl4, below: &[Ace], besides: &[Ace]) -> Result<Acl4, FileFault>
+    ensures { ReadsAs (as_list (acl ++ (below.now ++ besides.now))) result }
+{
+    if acl.aces().len() + below.len() + besides.len() > MAX_ACES {
         return Err(FileFault::Block(BlockFault::Acl(AclFault::TooMany)));
     }
-    append(&mut acl, below.aces())?;
-    append(&mut acl, besides.aces())?;
+    append(&mut acl, below)?;
+    append(&mut acl, besides)?;
     Ok(acl)
+}
+
+/// The translation of an access list, as Linux evaluates it.
+fn translation_of(alloc: Global, access: Acl) -> Result<Acl4, AllocError>
+    ensures { IfOk result (λ acl. acl ≡ translation (linux_list access)) }
+{
+    translate(alloc, &access.for_linux(alloc)?)
 }
 
 /// The translation of a default list; empty without one.
