@@ -9,7 +9,7 @@ ghost use Rattle.acl_wire.specs.Xattr.{xattr_of};
 use crate::status::no_room;
 use acl_nfs4::Acl4;
 use acl_posix::Acl;
-use acl_wire::{RawAce, write_bytes, write_raw_aces, write_raws, write_xattr};
+use acl_wire::{RawAce, write_bytes, write_raw_aces, write_xattr};
 
 /// Reports how many items a list has, and whether a buffer has room for them: 0 if so.
 pub(crate) fn report_count(count: usize, room: usize, needed: &mut usize) -> i32
@@ -33,14 +33,6 @@ pub(crate) fn put_raw_aces(acl: &Acl4, out: &mut [RawAce], needed: &mut usize) -
     ensures { Puts (raws_of acl.now) result out.old out.new needed.new }
 {
     let count = write_raw_aces(acl, out);
-    report_count(count, out.len(), needed)
-}
-
-/// Puts the entries into the buffer.
-pub(crate) fn put_raws(raws: &[RawAce], out: &mut [RawAce], needed: &mut usize) -> i32
-    ensures { Puts raws.now result out.old out.new needed.new }
-{
-    let count = write_raws(raws, out);
     report_count(count, out.len(), needed)
 }
 

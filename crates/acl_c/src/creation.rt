@@ -8,9 +8,9 @@ ghost use Rattle.acl_nfs4.specs.declared.limits.TheConstants.{INLINE_ACES};
 ghost use Rattle.acl_wire.specs.Creation.{aces_of_mode, created_of};
 ghost use Rattle.acl_wire.specs.RawAcesWriting.{raws_of};
 
-use crate::buffers::{put_raw_aces, put_raws};
+use crate::buffers::{put_raw_aces, report_count};
 use crate::status::{nfs4_error_number, nfs4_number as nfs4_fault_number};
-use acl_wire::{Making, RawAce, acl4_of_mode, mode_made, raws_created};
+use acl_wire::{Making, RawAce, acl4_of_mode, mode_made, write_created};
 use std::alloc::Global;
 
 /// The list of what is made in a folder, and its mode: 0, or 1 if it inherits nothing and has no
@@ -31,10 +31,10 @@ pub extern "C" fn meardwyn_nfs4_create(
         (λ made. IfSome made (λ list. length list ≤ INLINE_ACES))
         → result ≢ out_of_memory }
 {
-    match raws_created(alloc, folder_aces, making) {
-        Ok(Some(list)) => {
+    match write_created(alloc, folder_aces, making, out) {
+        Ok(Some(count)) => {
             *mode = mode_made(making, true);
-            put_raws(list.as_slice(), out, needed)
+            report_count(count, out.len(), needed)
         }
         Ok(None) => {
             *mode = mode_made(making, false);

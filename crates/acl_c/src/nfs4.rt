@@ -18,12 +18,12 @@ ghost use Rattle.acl_wire.specs.Shown.{mode_shown};
 ghost use Rattle.acl_wire.specs.XdrRaws.{xdr_raws_of};
 ghost use Rattle.acl_wire.specs.XdrWriting.{raws_xdr_of};
 
-use crate::buffers::{put_raws, report_count};
+use crate::buffers::report_count;
 use crate::status::{nfs4_error_number, nfs4_number as nfs4_fault_number};
 use acl_nfs4::Kind;
 use acl_wire::{
-    Decided, RawAce, put_xdr_raws, raws_allow, raws_decide, raws_fault, raws_grant, raws_inherited,
-    raws_mode, raws_with_mode, write_xdr,
+    Decided, RawAce, put_xdr_raws, raws_allow, raws_decide, raws_fault, raws_grant, raws_mode,
+    write_inherited, write_with_mode, write_xdr,
 };
 use std::alloc::Global;
 
@@ -178,8 +178,8 @@ pub extern "C" fn meardwyn_nfs4_chmod(
         → IfOk (chmod_of aces.now mode how) (λ list. length list ≤ INLINE_ACES)
         → result ≢ out_of_memory }
 {
-    match raws_with_mode(alloc, aces, mode, how) {
-        Ok(made) => put_raws(made.as_slice(), out, needed),
+    match write_with_mode(alloc, aces, mode, how, out) {
+        Ok(count) => report_count(count, out.len(), needed),
         Err(error) => nfs4_error_number(error),
     }
 }
@@ -204,8 +204,8 @@ pub extern "C" fn meardwyn_nfs4_inherit(
         result out.old out.new needed.old needed.new }
     ensures short { length aces.now ≤ INLINE_ACES → result ≢ out_of_memory }
 {
-    match raws_inherited(alloc, aces, kind_below(is_dir)) {
-        Ok(below) => put_raws(below.as_slice(), out, needed),
+    match write_inherited(alloc, aces, kind_below(is_dir), out) {
+        Ok(count) => report_count(count, out.len(), needed),
         Err(error) => nfs4_error_number(error),
     }
 }

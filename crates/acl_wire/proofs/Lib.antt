@@ -39,3 +39,4 @@ pub mod ShownLemmas
 pub mod EntryLemmas
 pub mod NamesAgain
 pub mod XdrPutLemmas
+pub mod DraftLemmas

@@ -1,6 +1,6 @@
 -- What is made in a folder with an NFSv4 list, and the NFSv4 list of a mode.
-use Rattle.std.specs.Prelude.{◌==◌, ℕ, Bool, true, false, List, [], ◌∷◌, ◌++◌, Option, Some, None}
-use Rattle.std.specs.Prelude.{Result, Ok, Err, if◌then◌else◌, length}
+use Rattle.std.specs.Prelude.{◌≡◌, ◌==◌, ℕ, Bool, true, false, List, [], ◌∷◌, ◌++◌, Option, Some}
+use Rattle.std.specs.Prelude.{None, Result, Ok, Err, if◌then◌else◌, length}
 use Rattle.acl_names.specs.Bits.{without}
 use Rattle.acl_names.specs.Steps.{◌>>=◌}
 use Rattle.acl_nfs4.specs.Ace.{Nfsace4, ace_of}
@@ -12,7 +12,10 @@ use Rattle.acl_nfs4.specs.declared.who.Who.TheVariants.{Owner, Everyone}
 use Rattle.acl_posix.specs.Mode.{Classes}
 use Rattle.acl_wire.specs.Inheritance.{inherited_of}
 use Rattle.acl_wire.specs.ModeChange.{changed, classes_in, rule_in}
+use Rattle.acl_wire.specs.RawAces.{FailsAs}
+use Rattle.acl_wire.specs.Writing.{PutsInFront}
 use Rattle.acl_wire.specs.declared.creation.Making.{Making}
+use Rattle.acl_wire.specs.declared.fault.Nfs4Error.{Nfs4Error}
 use Rattle.acl_wire.specs.declared.fault.Nfs4Fault.{Nfs4Fault}
 use Rattle.acl_wire.specs.declared.fault.Nfs4Fault.TheVariants as faults
 use Rattle.acl_wire.specs.declared.mode_change.ModeRule.{ModeRule}
@@ -31,6 +34,11 @@ dressed rule mode raws =
     if length raws == 0 then Ok None
     else (changed rule mode raws >>= λ list. Ok (Some list))
 
+-- the list of what is made of this kind, with this mode, in a folder with these entries
+abbrev pub made_of : Kind → Classes → ModeRule → List RawAce
+    → Result (Option (List RawAce)) Nfs4Fault
+made_of kind mode rule raws = inherited_of kind raws >>= λ below. dressed rule mode below
+
 -- the list of what is made in a folder with these entries
 unfoldable pub created_of : List RawAce → Making → Result (Option (List RawAce)) Nfs4Fault
 created_of raws making = do
@@ -38,8 +46,16 @@ created_of raws making = do
   mode ← classes_in making.mode
   umask ← classes_in making.umask
   rule ← rule_in making.how
-  below ← inherited_of kind raws
-  dressed rule mode below
+  made_of kind mode rule raws
+
+-- a call puts the list that is made, and answers how many entries it has; or that nothing is
+-- inherited, or why there is no answer, or that memory ran out
+abbrev pub PutsMade : Result (Option (List RawAce)) Nfs4Fault → Result (Option ℕ) Nfs4Error
+    → List RawAce → List RawAce → Type 0
+PutsMade answer (Ok (Some count)) old new = (list : List RawAce) × (answer ≡ Ok (Some list))
+    × PutsInFront list count old new
+PutsMade answer (Ok None) old new = (answer ≡ Ok None) × (new ≡ old)
+PutsMade answer (Err error) old new = FailsAs error answer × (new ≡ old)
 
 -- its mode, from which the umask is taken where it inherits nothing
 abbrev pub mode_made : Making → Option (List RawAce) → ℕ

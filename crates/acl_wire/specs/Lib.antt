@@ -1,11 +1,11 @@
 pub mod Numbers
-pub mod Writing
 pub mod Xattr
 pub mod XattrReading
 pub mod Posix
 pub mod Check
 pub mod OnePass
 pub mod RawAces
+pub mod Writing
 pub mod RawAcesWriting
 pub mod Nfs4
 pub mod Decision

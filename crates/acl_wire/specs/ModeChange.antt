@@ -1,6 +1,6 @@
 -- What lists of numbers become if a mode is set: all bits that have a meaning stay.
-use Rattle.std.specs.Prelude.{ℕ, ◌==◌, Bool, true, false, List, length, Result, Ok, Err, nat_le}
-use Rattle.std.specs.Prelude.{if◌then◌else◌}
+use Rattle.std.specs.Prelude.{◌≡◌, ◌≤◌, ◌⊎◌, ◌+◌, ◌*◌, ℕ, ◌==◌, Bool, true, false, List, length}
+use Rattle.std.specs.Prelude.{Result, Ok, Err, nat_le, if◌then◌else◌}
 use Rattle.acl_names.specs.Steps.{◌>>=◌}
 use Rattle.acl_nfs4.specs.Ace.{Nfsace4}
 use Rattle.acl_nfs4.specs.Mask.{rest_of}
@@ -59,3 +59,8 @@ chmod_of raws mode how = do
   classes ← classes_in mode
   rule ← rule_in how
   changed rule classes raws
+
+-- a draft with so much room, which is no more than a list may have, has enough for whatever so many
+-- entries become by a mode
+abbrev pub IsDraftFor : ℕ → ℕ → Type 0
+IsDraftFor room count = (room ≤ MAX_ACES) × ((3 * count + 5 ≤ room) ⊎ (room ≡ MAX_ACES))

@@ -1,21 +1,23 @@
 //! Creating something in a folder with an NFSv4 list, and the NFSv4 list of a mode.
 
-ghost use Rattle.std.specs.Prelude.{◌≡◌, ◌≢◌, ◌≤◌, ◌<◌, ◌++◌, ◌∷◌, [], IfErr, IfOk, IfSome, List};
-ghost use Rattle.std.specs.Prelude.{None, Some, false, length, option_map, true};
+ghost use Rattle.std.specs.Prelude.{◌≡◌, ◌≢◌, ◌≤◌, ◌<◌, ◌⊎◌, ◌++◌, ◌∷◌, [], IfErr, IfOk, IfSome};
+ghost use Rattle.std.specs.Prelude.{List, None, Some, false, length, true};
 ghost use Rattle.acl_nfs4.specs.Ace.{ace_of};
 ghost use Rattle.acl_nfs4.specs.ModeChange.{with_mode};
 ghost use Rattle.acl_nfs4.specs.Who.{is_special};
 ghost use Rattle.acl_nfs4.specs.declared.ace.AceType.TheVariants.{Allow};
-ghost use Rattle.acl_nfs4.specs.declared.limits.TheConstants.{INLINE_ACES};
-ghost use Rattle.acl_wire.specs.Creation.{aces_of_mode, created_of, dressed, kind_in, mode_made};
-ghost use Rattle.acl_wire.specs.RawAces.{Answers};
+ghost use Rattle.acl_nfs4.specs.declared.limits.TheConstants.{INLINE_ACES, MAX_ACES};
+ghost use Rattle.acl_wire.specs.Creation.{PutsMade, aces_of_mode, created_of, dressed, kind_in};
+ghost use Rattle.acl_wire.specs.Creation.{made_of, mode_made};
 ghost use Rattle.acl_wire.specs.declared.raw_ace.RawAce.{RawAce as Raw};
 
-use crate::mode_change::{changed, mode_of_number, rule_of_number};
+use crate::inheritance::inherit;
+use crate::mode_change::{mode_of_number, rule_of_number, write_changed};
 use crate::numbers::without_bits;
-use crate::{ModeRule, Nfs4Error, Nfs4Fault, RawAce, RawAces, raws_inherited};
-use acl_nfs4::{Ace, AceType, Acl4, Flags, Kind, Mask, Who};
+use crate::{ModeRule, Nfs4Error, Nfs4Fault, RawAce};
+use acl_nfs4::{Ace, AceType, Acl4, Flags, INLINE_ACES, Kind, MAX_ACES, Mask, Who};
 use acl_posix::Mode;
+use arrayvec::ArrayVec;
 use bitflags::Flags as FlagSet;
 use std::alloc::Global;
 
@@ -50,15 +52,15 @@ fn kind_of_number(kind: u32) -> Result<Kind, Nfs4Fault>
     }
 }
 
-/// What is inherited, with the mode set on it.
-fn dressed(
+/// Puts what is inherited, with the mode set on it.
+fn write_dressed(
     alloc: Global,
     below: &[RawAce],
     mode: Mode,
     rule: ModeRule,
-) -> Result<Option<RawAces>, Nfs4Error>
-    ensures value { Answers (option_map (λ draft. draft.items)) result
-        (dressed rule mode below.now) }
+    out: &mut [RawAce],
+) -> Result<Option<usize>, Nfs4Error>
+    ensures value { PutsMade (dressed rule mode below.now) result out.old out.new }
     ensures short { length below.now ≤ INLINE_ACES → IfOk (dressed rule mode below.now)
         (λ made. IfSome made (λ list. length list ≤ INLINE_ACES))
         → IfErr result (λ error. error ≢ Nfs4Error.Memory) }
@@ -66,25 +68,50 @@ fn dressed(
     if below.is_empty() {
         return Ok(None);
     }
-    match changed(alloc, below, mode, rule) {
-        Ok(list) => Ok(Some(list)),
+    match write_changed(alloc, below, mode, rule, out) {
+        Ok(count) => Ok(Some(count)),
         Err(error) => Err(error),
     }
 }
 
-/// The list of what is created in a folder with these entries: what it inherits (RFC 8881, section
-/// 6.4.3), with its mode set on it, whatever the umask; `None` if it inherits nothing. Fails with
-/// `Argument` if the kind, the mode, the umask or the rule is out of range, before all other
-/// faults, and with `TooMany` if the list would have more than 128 entries. Memory runs out only if
-/// the folder's list, or the new one, has more than `INLINE_ACES` entries.
+/// Puts what is made of a folder's entries, in room for so many that are inherited. Never inlined,
+/// so that short lists don't pay for the room of long ones.
+#[inline(never)]
+fn write_within<const N: usize>(
+    alloc: Global,
+    folder: &[RawAce],
+    kind: Kind,
+    mode: Mode,
+    rule: ModeRule,
+    out: &mut [RawAce],
+) -> Result<Option<usize>, Nfs4Error>
+    requires most { N ≤ MAX_ACES }
+    requires room { (length folder.now ≤ N) ⊎ (N ≡ MAX_ACES) }
+    ensures value { PutsMade (made_of kind mode rule folder.now) result out.old out.new }
+    ensures short { length folder.now ≤ INLINE_ACES
+        → IfOk (made_of kind mode rule folder.now)
+        (λ made. IfSome made (λ list. length list ≤ INLINE_ACES))
+        → IfErr result (λ error. error ≢ Nfs4Error.Memory) }
+{
+    let mut below = ArrayVec::<RawAce, N>::new();
+    inherit(alloc, &mut below, folder, kind)?;
+    write_dressed(alloc, below.as_slice(), mode, rule, out)
+}
+
+/// Puts the list of what is created in a folder with these entries in front of `out`, if it has
+/// room for it, and else leaves `out` as it was: what it inherits (RFC 8881, section 6.4.3), with
+/// its mode set on it, whatever the umask. The answer is how many entries it has; `None` if it
+/// inherits nothing. Fails with `Argument` if the kind, the mode, the umask or the rule is out of
+/// range, before all other faults, and with `TooMany` if the list would have more than 128 entries.
+/// Memory runs out only if the folder's list, or the new one, has more than `INLINE_ACES` entries.
 #[tactic(auto, unfolding(crate::specs::Creation::created_of))]
-pub fn raws_created(
+pub fn write_created(
     alloc: Global,
     folder: &[RawAce],
     making: &Making,
-) -> Result<Option<RawAces>, Nfs4Error>
-    ensures value { Answers (option_map (λ draft. draft.items)) result
-        (created_of folder.now making.now) }
+    out: &mut [RawAce],
+) -> Result<Option<usize>, Nfs4Error>
+    ensures value { PutsMade (created_of folder.now making.now) result out.old out.new }
     ensures short { length folder.now ≤ INLINE_ACES
         → IfOk (created_of folder.now making.now)
         (λ made. IfSome made (λ list. length list ≤ INLINE_ACES))
@@ -94,8 +121,11 @@ pub fn raws_created(
     let mode = mode_of_number(making.mode)?;
     let _umask = mode_of_number(making.umask)?;
     let rule = rule_of_number(making.how)?;
-    let below = raws_inherited(alloc, folder, kind)?;
-    dressed(alloc, below.as_slice(), mode, rule)
+    if folder.len() <= INLINE_ACES {
+        write_within::<INLINE_ACES>(alloc, folder, kind, mode, rule, out)
+    } else {
+        write_within::<MAX_ACES>(alloc, folder, kind, mode, rule, out)
+    }
 }
 
 /// The mode of what is created: without the umask's bits if it inherits nothing.

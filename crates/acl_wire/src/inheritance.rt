@@ -1,6 +1,6 @@
 //! What is inherited of a list of numbers, all of whose bits stay (RFC 8881, section 6.4.3).
 
-ghost use Rattle.std.specs.Prelude.{◌≡◌, ◌≢◌, ◌≤◌, IfErr, IfOk, length, option_map};
+ghost use Rattle.std.specs.Prelude.{◌≡◌, ◌≢◌, ◌≤◌, ◌⊎◌, [], IfErr, OnOk, length, option_map};
 ghost use Rattle.acl_names.specs.Bits.{has};
 ghost use Rattle.acl_nfs4.specs.Flags.{directory_inherit, file_inherit, no_propagate_inherit};
 ghost use Rattle.acl_nfs4.specs.Inheritance.{flags_below, inherited_entry, inherited_list};
@@ -9,12 +9,14 @@ ghost use Rattle.acl_wire.specs.Inheritance.{inherited_of};
 ghost use Rattle.acl_wire.specs.Kept.{kept_ace, kept_aces};
 ghost use Rattle.acl_wire.specs.RawAces.{Answers};
 ghost use Rattle.acl_wire.specs.RawAcesWriting.{raw_of, raws_of};
+ghost use Rattle.acl_wire.specs.Writing.{PutsUnless};
 
-use crate::draft::RawAces;
+use crate::draft::write_raws;
 use crate::mode_change::kept_raw;
 use crate::numbers::{has_bit, without_bits};
 use crate::{Nfs4Error, Purpose, RawAce, read_raw_aces};
-use acl_nfs4::{Ace, Kind};
+use acl_nfs4::{Ace, INLINE_ACES, Kind, MAX_ACES};
+use arrayvec::ArrayVec;
 use std::alloc::Global;
 
 /// The inheritance flags of an entry in what is made below, if it is inherited.
@@ -52,33 +54,85 @@ fn inherited(raw: &RawAce, ace: &Ace, kind: Kind) -> Option<RawAce>
     }
 }
 
-/// What is inherited of the entries.
-fn all_inherited(raws: &[RawAce], aces: &[Ace], kind: Kind) -> RawAces
+/// Puts what is inherited of the entries into the empty draft.
+fn put_inherited<const N: usize>(
+    draft: &mut ArrayVec<RawAce, N>,
+    raws: &[RawAce],
+    aces: &[Ace],
+    kind: Kind,
+)
     requires same { length raws.now ≡ length aces.now }
-    requires few { length raws.now ≤ MAX_ACES }
-    ensures value { result.items ≡ raws_of (inherited_list kind
+    requires room { length raws.now ≤ N }
+    requires empty { draft.old.items ≡ [] }
+    ensures value { draft.new.items ≡ raws_of (inherited_list kind
         (kept_aces raws.now aces.now)) }
-    ensures few { length result.items ≤ length raws.now }
+    ensures few { length draft.new.items ≤ length raws.now }
 {
-    let mut draft = RawAces::new();
     for (place, raw) in raws.iter().enumerate() {
         if let Some(below) = inherited(raw, &aces[place], kind) {
             draft.push(below);
         }
     }
-    draft
 }
 
-/// The entries that a new file, or a new directory, inherits, before a mode is set. All bits that
-/// have a meaning stay, `ACE4_INHERITED_ACE` as the folder's entry has it. Memory runs out only for
-/// more than `INLINE_ACES` entries.
+/// Puts what is inherited of the list into the empty draft, which has room for as many entries, or
+/// for the most that a list has.
 #[tactic(auto, unfolding(crate::specs::Inheritance::inherited_of))]
-pub fn raws_inherited(alloc: Global, raws: &[RawAce], kind: Kind) -> Result<RawAces, Nfs4Error>
-    ensures value { Answers (λ draft. draft.items) result (inherited_of kind raws.now) }
-    ensures few { IfOk result (λ draft. length draft.items ≤ length raws.now) }
+pub(crate) fn inherit<const N: usize>(
+    alloc: Global,
+    draft: &mut ArrayVec<RawAce, N>,
+    raws: &[RawAce],
+    kind: Kind,
+) -> Result<(), Nfs4Error>
+    requires room { (length raws.now ≤ N) ⊎ (N ≡ MAX_ACES) }
+    requires empty { draft.old.items ≡ [] }
+    ensures value { Answers (λ _. draft.new.items) result (inherited_of kind raws.now) }
+    ensures few { OnOk result (length draft.new.items ≤ length raws.now) }
     ensures short { length raws.now ≤ INLINE_ACES
         → IfErr result (λ error. error ≢ Nfs4Error.Memory) }
 {
     let acl = read_raw_aces(alloc, Purpose::Decide, raws)?;
-    Ok(all_inherited(raws, acl.aces(), kind))
+    put_inherited(draft, raws, acl.aces(), kind);
+    Ok(())
+}
+
+/// Puts what a list inherits, in room for so many entries. Never inlined, so that short lists don't
+/// pay for the room of long ones.
+#[inline(never)]
+fn write_within<const N: usize>(
+    alloc: Global,
+    raws: &[RawAce],
+    kind: Kind,
+    out: &mut [RawAce],
+) -> Result<usize, Nfs4Error>
+    requires most { N ≤ MAX_ACES }
+    requires room { (length raws.now ≤ N) ⊎ (N ≡ MAX_ACES) }
+    ensures value { PutsUnless (inherited_of kind raws.now) result out.old out.new }
+    ensures short { length raws.now ≤ INLINE_ACES
+        → IfErr result (λ error. error ≢ Nfs4Error.Memory) }
+{
+    let mut draft = ArrayVec::<RawAce, N>::new();
+    inherit(alloc, &mut draft, raws, kind)?;
+    Ok(write_raws(draft.as_slice(), out))
+}
+
+/// Puts the entries that a new file, or a new directory, inherits, before a mode is set, in front
+/// of `out`, if it has room for all, and else leaves `out` as it was, and answers how many there
+/// are. All bits that have a meaning stay, `ACE4_INHERITED_ACE` as the folder's entry has it.
+/// Memory runs out only for more than `INLINE_ACES` entries.
+pub fn write_inherited(
+    alloc: Global,
+    raws: &[RawAce],
+    kind: Kind,
+    out: &mut [RawAce],
+) -> Result<usize, Nfs4Error>
+    ensures value { PutsUnless (inherited_of kind raws.now) result out.old out.new }
+    ensures short { length raws.now ≤ INLINE_ACES
+        → IfErr result (λ error. error ≢ Nfs4Error.Memory) }
+{
+    if raws.len() <= INLINE_ACES {
+        write_within::<INLINE_ACES>(alloc, raws, kind, out)
+    } else {
+        write_within::<MAX_ACES>(alloc, raws, kind, out)
+    }
 }

@@ -1,23 +1,23 @@
 //! Setting a mode that leaves the entries that name users and groups (RFC 8881, section 6.4.1.1).
 
-ghost use Rattle.std.specs.Prelude.{◌≡◌, ◌≤◌, ◌<◌, ◌++◌, ℕ, true, IfOk, OnErr, OnOk, length};
+ghost use Rattle.std.specs.Prelude.{◌≡◌, ◌≤◌, ◌<◌, ◌++◌, ℕ, [], true, OnErr, OnOk, length};
 ghost use Rattle.acl_nfs4.specs.Ace.{plain_ace};
 ghost use Rattle.acl_nfs4.specs.Mask.{mask_bits, mask_of, rest_of};
 ghost use Rattle.acl_nfs4.specs.ModeChange.{names_someone};
 ghost use Rattle.acl_nfs4.specs.Who.{is_special};
 ghost use Rattle.acl_nfs4.specs.declared.ace.AceType.TheVariants.{Allow, Deny};
-ghost use Rattle.acl_nfs4.specs.declared.limits.TheConstants.{MAX_ACES};
 ghost use Rattle.acl_posix.specs.Perms.{bits_of};
 ghost use Rattle.acl_wire.specs.Keeping.{left_of_entry, left_of_list, with_mode_keep};
 ghost use Rattle.acl_wire.specs.Kept.{kept_ace, kept_aces};
 ghost use Rattle.acl_wire.specs.RawAcesWriting.{raws_of};
 
 use crate::RawAce;
-use crate::draft::{Full, RawAces, push, push_unless_empty};
+use crate::draft::{Full, push, push_unless_empty};
 use crate::mode_change::{decides, kept_raw, push_kept_of};
 use crate::raw_writing::{kind_number, special_number};
 use acl_nfs4::{Ace, AceType, Mask, Who, mask_of, rest_of};
 use acl_posix::{Mode, Perms};
+use arrayvec::ArrayVec;
 use bitflags::Flags as FlagSet;
 
 /// All three permissions.
@@ -38,10 +38,14 @@ fn names_someone(ace: &Ace, flags: u32) -> bool
 
 /// What an entry leaves, with all bits that have a meaning: one that names someone stays, and
 /// another keeps no bit of the mode.
-fn push_left_of(draft: &mut RawAces, raw: &RawAce, ace: &Ace) -> Result<(), Full>
+fn push_left_of<const N: usize>(
+    draft: &mut ArrayVec<RawAce, N>,
+    raw: &RawAce,
+    ace: &Ace,
+) -> Result<(), Full>
     ensures ok { OnOk result (draft.new.items ≡ draft.old.items
         ++ raws_of (left_of_entry (kept_ace raw.now ace.now))) }
-    ensures full { OnErr result (MAX_ACES < length (draft.old.items
+    ensures full { OnErr result (N < length (draft.old.items
         ++ raws_of (left_of_entry (kept_ace raw.now ace.now)))) }
 {
     let kept = kept_raw(raw, ace);
@@ -52,11 +56,15 @@ fn push_left_of(draft: &mut RawAces, raw: &RawAce, ace: &Ace) -> Result<(), Full
 }
 
 /// What the old entries leave.
-fn push_left(draft: &mut RawAces, raws: &[RawAce], aces: &[Ace]) -> Result<(), Full>
+fn push_left<const N: usize>(
+    draft: &mut ArrayVec<RawAce, N>,
+    raws: &[RawAce],
+    aces: &[Ace],
+) -> Result<(), Full>
     requires { length raws.now ≡ length aces.now }
     ensures ok { OnOk result (draft.new.items ≡ draft.old.items
         ++ raws_of (left_of_list (kept_aces raws.now aces.now))) }
-    ensures full { OnErr result (MAX_ACES < length (draft.old.items
+    ensures full { OnErr result (N < length (draft.old.items
         ++ raws_of (left_of_list (kept_aces raws.now aces.now)))) }
 {
     for (place, raw) in raws.iter().enumerate() {
@@ -66,11 +74,16 @@ fn push_left(draft: &mut RawAces, raws: &[RawAce], aces: &[Ace]) -> Result<(), F
 }
 
 /// An entry for one of the three special identifiers, unless its mask is empty.
-fn push_special(draft: &mut RawAces, kind: AceType, who: &Who, mask: Mask) -> Result<(), Full>
+fn push_special<const N: usize>(
+    draft: &mut ArrayVec<RawAce, N>,
+    kind: AceType,
+    who: &Who,
+    mask: Mask,
+) -> Result<(), Full>
     requires { is_special who.now ≡ true }
     ensures ok { OnOk result (draft.new.items ≡ draft.old.items
         ++ raws_of (plain_ace kind who.now (mask_bits mask))) }
-    ensures full { OnErr result (MAX_ACES < length (draft.old.items
+    ensures full { OnErr result (N < length (draft.old.items
         ++ raws_of (plain_ace kind who.now (mask_bits mask)))) }
 {
     push_unless_empty(
@@ -86,12 +99,16 @@ fn push_special(draft: &mut RawAces, kind: AceType, who: &Who, mask: Mask) -> Re
 }
 
 /// What these permissions stand for is allowed to the who, and the rest of the mode's bits denied.
-fn push_class(draft: &mut RawAces, who: &Who, perms: Perms) -> Result<(), Full>
+fn push_class<const N: usize>(
+    draft: &mut ArrayVec<RawAce, N>,
+    who: &Who,
+    perms: Perms,
+) -> Result<(), Full>
     requires { is_special who.now ≡ true }
     ensures ok { OnOk result (draft.new.items ≡ draft.old.items
         ++ raws_of (plain_ace Allow who.now (mask_of (bits_of perms))
         ++ plain_ace Deny who.now (rest_of (bits_of perms)))) }
-    ensures full { OnErr result (MAX_ACES < length (draft.old.items
+    ensures full { OnErr result (N < length (draft.old.items
         ++ raws_of (plain_ace Allow who.now (mask_of (bits_of perms))
         ++ plain_ace Deny who.now (rest_of (bits_of perms))))) }
 {
@@ -99,22 +116,27 @@ fn push_class(draft: &mut RawAces, who: &Who, perms: Perms) -> Result<(), Full>
     push_special(draft, AceType::Deny, who, rest_of(perms))
 }
 
-/// The list with the mode set, and the entries that name users and groups as they were.
-pub(crate) fn beside_named(raws: &[RawAce], aces: &[Ace], mode: Mode) -> Result<RawAces, Full>
-    requires { length raws.now ≡ length aces.now }
-    ensures ok { IfOk result (λ draft. draft.items
+/// Puts the list with the mode set, and the entries that name users and groups as they were, into
+/// the empty draft.
+pub(crate) fn put_beside_named<const N: usize>(
+    draft: &mut ArrayVec<RawAce, N>,
+    raws: &[RawAce],
+    aces: &[Ace],
+    mode: Mode,
+) -> Result<(), Full>
+    requires same { length raws.now ≡ length aces.now }
+    requires empty { draft.old.items ≡ [] }
+    ensures ok { OnOk result (draft.new.items
         ≡ raws_of (with_mode_keep (kept_aces raws.now aces.now) mode)) }
-    ensures full { OnErr result (MAX_ACES
-        < length (with_mode_keep (kept_aces raws.now aces.now) mode)) }
-    ensures few { IfOk result (λ draft. length draft.items ≤ MAX_ACES) }
+    ensures full { OnErr result (N < length (with_mode_keep (kept_aces raws.now aces.now) mode)) }
+    ensures few { OnOk result (length draft.new.items ≤ N) }
 {
-    let mut draft = RawAces::new();
-    push_class(&mut draft, &Who::Owner, mode.user)?;
-    push_left(&mut draft, raws, aces)?;
-    push_class(&mut draft, &Who::Group, mode.group)?;
+    push_class(draft, &Who::Owner, mode.user)?;
+    push_left(draft, raws, aces)?;
+    push_class(draft, &Who::Group, mode.group)?;
     let other = mask_of(mode.other);
-    push_special(&mut draft, AceType::Allow, &Who::Everyone, other)?;
+    push_special(draft, AceType::Allow, &Who::Everyone, other)?;
     // There are no more than it has room for.
     let _len = draft.len();
-    Ok(draft)
+    Ok(())
 }

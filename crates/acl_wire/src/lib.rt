@@ -34,14 +34,13 @@ pub use acl_access::Rules;
 pub use caller::Caller;
 pub use check::xattr_grants;
 pub use compare::{RawAsker, RawDifference, RawUnlike, raws_difference, xattr_difference};
-pub use creation::{Making, acl4_of_mode, mode_made, raws_created};
+pub use creation::{Making, acl4_of_mode, mode_made, write_created};
 pub use decision::{Decided, raws_allow, raws_decide, raws_grant};
 pub use deletion::{raws_delete, xattr_delete};
-pub use draft::{RawAces, write_raws};
 pub use fault::{Nfs4Error, Nfs4Fault, PosixError, PosixFault};
-pub use inheritance::raws_inherited;
+pub use inheritance::write_inherited;
 pub use laws::{decision_laws, keeping_laws, wire_laws};
-pub use mode_change::{ModeRule, raws_with_mode};
+pub use mode_change::{ModeRule, write_with_mode};
 pub use posix::{
     acl_of_mode, acl_of_xattr, xattr_at_creation, xattr_translated, xattr_translated_default,
     xattr_with_mode,

@@ -1,7 +1,7 @@
 //! Setting the mode of a list of numbers, all of whose bits stay (RFC 8881, section 6.4.1.1).
 
-ghost use Rattle.std.specs.Prelude.{◌≡◌, ◌≢◌, ◌≤◌, ◌<◌, ◌↔◌, ◌==◌, ◌||◌, ◌++◌, ℕ, Err, IfErr, IfOk};
-ghost use Rattle.std.specs.Prelude.{IsOk, Ok, OnErr, OnOk, if◌then◌else◌, length};
+ghost use Rattle.std.specs.Prelude.{◌≡◌, ◌≢◌, ◌≤◌, ◌<◌, ◌↔◌, ◌==◌, ◌||◌, ◌++◌, ℕ, [], Err, IfErr};
+ghost use Rattle.std.specs.Prelude.{IfOk, IsOk, Ok, OnErr, OnOk, if◌then◌else◌, length};
 ghost use Rattle.acl_names.specs.Bits.{has};
 ghost use Rattle.acl_nfs4.specs.Ace.{decides};
 ghost use Rattle.acl_nfs4.specs.Flags.{directory_inherit, file_inherit};
@@ -12,19 +12,21 @@ ghost use Rattle.acl_nfs4.specs.declared.who.Who.{Who};
 ghost use Rattle.acl_posix.specs.Perms.{bits_of};
 ghost use Rattle.acl_wire.specs.Kept.{kept_ace, kept_aces, kept_list};
 ghost use Rattle.acl_wire.specs.ModeChange.{changed, changed_by, chmod_of, classes_in, denied_by};
-ghost use Rattle.acl_wire.specs.ModeChange.{fits, rule_in};
+ghost use Rattle.acl_wire.specs.ModeChange.{IsDraftFor, fits, rule_in};
 ghost use Rattle.acl_wire.specs.Keeping.{with_mode_keep};
 ghost use Rattle.acl_wire.specs.RawAces.{Answers, list_of};
 ghost use Rattle.acl_wire.specs.RawAcesWriting.{raw_of, raws_of};
+ghost use Rattle.acl_wire.specs.Writing.{PutsUnless};
 
-use crate::draft::{Full, RawAces, push, push_aces, push_unless_empty};
-use crate::keeping::beside_named;
+use crate::draft::{Full, push, push_aces, push_unless_empty, write_raws};
+use crate::keeping::put_beside_named;
 use crate::numbers::{has_bit, without_bits};
 use crate::raw_ace::tidied;
 use crate::raw_writing::raw_of;
 use crate::{Nfs4Error, Nfs4Fault, Purpose, RawAce, read_raw_aces};
-use acl_nfs4::{Ace, AceType, Acl4, Fault4, Who, mask_of, rest_of};
+use acl_nfs4::{Ace, AceType, Acl4, Fault4, MAX_ACES, Who, mask_of, rest_of};
 use acl_posix::{Mode, Perms};
+use arrayvec::ArrayVec;
 use bitflags::Flags as FlagSet;
 use std::alloc::Global;
 
@@ -42,6 +44,12 @@ const INHERIT_ONLY: u32 = 0x8;
 
 /// The flags of inheritance.
 const INHERITANCE: u32 = 0xF;
+
+/// Few entries.
+const FEW_ACES: usize = 9;
+
+/// The most entries that few become by a mode: three each, and five.
+const MADE_OF_FEW: usize = 32;
 
 /// The mode of this number, at most octal 777.
 pub(crate) fn mode_of_number(mode: u32) -> Result<Mode, Nfs4Fault>
@@ -132,15 +140,15 @@ pub(crate) fn kept_raw(raw: &RawAce, ace: &Ace) -> RawAce
 /// What an entry leaves beside a mode, with all bits that have a meaning: one that doesn't decide
 /// stays; one that is inherited too becomes one entry for each; and what takes effect keeps no bit
 /// that the mode takes.
-pub(crate) fn push_kept_of(
-    draft: &mut RawAces,
+pub(crate) fn push_kept_of<const N: usize>(
+    draft: &mut ArrayVec<RawAce, N>,
     raw: &RawAce,
     ace: &Ace,
     group: Perms,
 ) -> Result<(), Full>
     ensures ok { OnOk result (draft.new.items ≡ draft.old.items
         ++ raws_of (kept_of_entry (bits_of group) (kept_ace raw.now ace.now))) }
-    ensures full { OnErr result (MAX_ACES < length (draft.old.items
+    ensures full { OnErr result (N < length (draft.old.items
         ++ raws_of (kept_of_entry (bits_of group) (kept_ace raw.now ace.now)))) }
 {
     let kept = kept_raw(raw, ace);
@@ -165,11 +173,16 @@ pub(crate) fn push_kept_of(
 }
 
 /// What the old entries leave.
-fn push_kept(draft: &mut RawAces, raws: &[RawAce], aces: &[Ace], group: Perms) -> Result<(), Full>
+fn push_kept<const N: usize>(
+    draft: &mut ArrayVec<RawAce, N>,
+    raws: &[RawAce],
+    aces: &[Ace],
+    group: Perms,
+) -> Result<(), Full>
     requires { length raws.now ≡ length aces.now }
     ensures ok { OnOk result (draft.new.items ≡ draft.old.items
         ++ raws_of (kept_of_list (bits_of group) (kept_aces raws.now aces.now))) }
-    ensures full { OnErr result (MAX_ACES < length (draft.old.items
+    ensures full { OnErr result (N < length (draft.old.items
         ++ raws_of (kept_of_list (bits_of group) (kept_aces raws.now aces.now)))) }
 {
     for (place, raw) in raws.iter().enumerate() {
@@ -178,28 +191,30 @@ fn push_kept(draft: &mut RawAces, raws: &[RawAce], aces: &[Ace], group: Perms) -
     Ok(())
 }
 
-/// The entries in front, what is left of the old ones, and the entries at the end.
-fn assembled(
+/// Puts the entries in front, what is left of the old ones, and the entries at the end, into the
+/// empty draft.
+fn assemble<const N: usize>(
+    draft: &mut ArrayVec<RawAce, N>,
     front: &[Ace],
     raws: &[RawAce],
     aces: &[Ace],
     group: Perms,
     back: &[Ace],
-) -> Result<RawAces, Full>
-    requires { length raws.now ≡ length aces.now }
-    ensures ok { IfOk result (λ draft. draft.items ≡ raws_of (front.now
+) -> Result<(), Full>
+    requires same { length raws.now ≡ length aces.now }
+    requires empty { draft.old.items ≡ [] }
+    ensures ok { OnOk result (draft.new.items ≡ raws_of (front.now
         ++ (kept_of_list (bits_of group) (kept_aces raws.now aces.now) ++ back.now))) }
-    ensures full { OnErr result (MAX_ACES < length (front.now
+    ensures full { OnErr result (N < length (front.now
         ++ (kept_of_list (bits_of group) (kept_aces raws.now aces.now) ++ back.now))) }
-    ensures few { IfOk result (λ draft. length draft.items ≤ MAX_ACES) }
+    ensures few { OnOk result (length draft.new.items ≤ N) }
 {
-    let mut draft = RawAces::new();
-    push_aces(&mut draft, front)?;
-    push_kept(&mut draft, raws, aces, group)?;
-    push_aces(&mut draft, back)?;
+    push_aces(draft, front)?;
+    push_kept(draft, raws, aces, group)?;
+    push_aces(draft, back)?;
     // There are no more than it has room for.
     let _len = draft.len();
-    Ok(draft)
+    Ok(())
 }
 
 /// How many entries of these bits there are: one if there is any.
@@ -263,18 +278,21 @@ fn set_mode(alloc: Global, acl: &mut Acl4, mode: Mode, least: bool) -> Result<()
     }
 }
 
-/// What is left of the old entries, with the entries in front and at the end.
-fn with_around(
+/// Puts what is left of the old entries, with the entries in front and at the end, into the draft.
+fn put_around<const N: usize>(
     alloc: Global,
+    draft: &mut ArrayVec<RawAce, N>,
     raws: &[RawAce],
     aces: &[Ace],
     base: Acl4,
     mode: Mode,
     least: bool,
-) -> Result<RawAces, Nfs4Error>
+) -> Result<(), Nfs4Error>
     requires read { list_of Purpose.Decide raws.now ≡ Ok aces.now }
     requires base { base ≡ aces.now }
-    ensures value { Answers (λ draft. draft.items) result
+    requires room { IsDraftFor N (length raws.now) }
+    requires empty { draft.old.items ≡ [] }
+    ensures value { Answers (λ _. draft.new.items) result
         (fits (with_denials (denied_by least mode) (kept_aces raws.now aces.now) mode)) }
     ensures short { length (with_denials (denied_by least mode) (kept_aces raws.now aces.now) mode)
         ≤ INLINE_ACES → IfErr result (λ error. error ≢ Nfs4Error.Memory) }
@@ -288,20 +306,30 @@ fn with_around(
         Err(Fault4::Memory) => return Err(Nfs4Error::Memory),
     }
     let around = around.aces();
-    match assembled(&around[..front], raws, aces, mode.group, &around[behind..]) {
-        Ok(draft) => Ok(draft),
+    match assemble(
+        draft,
+        &around[..front],
+        raws,
+        aces,
+        mode.group,
+        &around[behind..],
+    ) {
+        Ok(()) => Ok(()),
         Err(_) => Err(Nfs4Error::Fault(Nfs4Fault::TooMany)),
     }
 }
 
-/// The list with the mode set with denials, all or the least.
-fn with_denials(
+/// Puts the list with the mode set with denials, all or the least, into the draft.
+fn put_with_denials<const N: usize>(
     alloc: Global,
+    draft: &mut ArrayVec<RawAce, N>,
     raws: &[RawAce],
     mode: Mode,
     least: bool,
-) -> Result<RawAces, Nfs4Error>
-    ensures value { Answers (λ draft. draft.items) result
+) -> Result<(), Nfs4Error>
+    requires room { IsDraftFor N (length raws.now) }
+    requires empty { draft.old.items ≡ [] }
+    ensures value { Answers (λ _. draft.new.items) result
         (changed_by (λ list. with_denials (denied_by least mode) list mode) raws.now) }
     ensures short { length raws.now ≤ INLINE_ACES → IfOk (kept_list raws.now)
         (λ aces. length (with_denials (denied_by least mode) aces mode) ≤ INLINE_ACES)
@@ -310,61 +338,115 @@ fn with_denials(
     let acl = read_raw_aces(alloc, Purpose::Decide, raws)?;
     // Read again, since one is changed while the other still reports what the entries were.
     let base = read_raw_aces(alloc, Purpose::Decide, raws)?;
-    with_around(alloc, raws, acl.aces(), base, mode, least)
+    put_around(alloc, draft, raws, acl.aces(), base, mode, least)
 }
 
-/// The list with the mode set, and the entries that name users and groups as they were.
-fn with_named(alloc: Global, raws: &[RawAce], mode: Mode) -> Result<RawAces, Nfs4Error>
-    ensures value { Answers (λ draft. draft.items) result
+/// Puts the list with the mode set, and the entries that name users and groups as they were, into
+/// the draft.
+fn put_with_named<const N: usize>(
+    alloc: Global,
+    draft: &mut ArrayVec<RawAce, N>,
+    raws: &[RawAce],
+    mode: Mode,
+) -> Result<(), Nfs4Error>
+    requires room { IsDraftFor N (length raws.now) }
+    requires empty { draft.old.items ≡ [] }
+    ensures value { Answers (λ _. draft.new.items) result
         (changed_by (λ list. with_mode_keep list mode) raws.now) }
     ensures short { length raws.now ≤ INLINE_ACES
         → IfErr result (λ error. error ≢ Nfs4Error.Memory) }
 {
     let acl = read_raw_aces(alloc, Purpose::Decide, raws)?;
-    match beside_named(raws, acl.aces(), mode) {
-        Ok(draft) => Ok(draft),
+    match put_beside_named(draft, raws, acl.aces(), mode) {
+        Ok(()) => Ok(()),
         Err(_) => Err(Nfs4Error::Fault(Nfs4Fault::TooMany)),
     }
 }
 
-/// The list with the mode set by the rule.
+/// Puts the list with the mode set by the rule into the empty draft.
 #[tactic(auto, unfolding(crate::specs::ModeChange::changed))]
-pub(crate) fn changed(
+fn change<const N: usize>(
     alloc: Global,
+    draft: &mut ArrayVec<RawAce, N>,
     raws: &[RawAce],
     mode: Mode,
     rule: ModeRule,
-) -> Result<RawAces, Nfs4Error>
-    ensures value { Answers (λ draft. draft.items) result (changed rule mode raws.now) }
+) -> Result<(), Nfs4Error>
+    requires room { IsDraftFor N (length raws.now) }
+    requires empty { draft.old.items ≡ [] }
+    ensures value { Answers (λ _. draft.new.items) result (changed rule mode raws.now) }
     ensures short { length raws.now ≤ INLINE_ACES
         → IfOk (changed rule mode raws.now) (λ made. length made ≤ INLINE_ACES)
         → IfErr result (λ error. error ≢ Nfs4Error.Memory) }
 {
     match rule {
-        ModeRule::Profile => with_denials(alloc, raws, mode, false),
-        ModeRule::Least => with_denials(alloc, raws, mode, true),
-        ModeRule::Keep => with_named(alloc, raws, mode),
+        ModeRule::Profile => put_with_denials(alloc, draft, raws, mode, false),
+        ModeRule::Least => put_with_denials(alloc, draft, raws, mode, true),
+        ModeRule::Keep => put_with_named(alloc, draft, raws, mode),
     }
 }
 
-/// The list with a mode set (within RFC 8881, section 6.4.1.1), by the rule of this number: 0 is
-/// `Profile`, 1 `Least`, 2 `Keep`. All bits that have a meaning stay. A mode above octal 777, or no
-/// rule, is the fault `Argument`, before all others, and a list that would have more than 128
-/// entries is `TooMany`. Memory runs out only if the list, or the one that it becomes, has more
-/// than `INLINE_ACES` entries.
+/// Puts the list with the mode set, in room for so many entries. Never inlined, so that short lists
+/// don't pay for the room of long ones.
+#[inline(never)]
+fn write_within<const N: usize>(
+    alloc: Global,
+    raws: &[RawAce],
+    mode: Mode,
+    rule: ModeRule,
+    out: &mut [RawAce],
+) -> Result<usize, Nfs4Error>
+    requires { IsDraftFor N (length raws.now) }
+    ensures value { PutsUnless (changed rule mode raws.now) result out.old out.new }
+    ensures short { length raws.now ≤ INLINE_ACES
+        → IfOk (changed rule mode raws.now) (λ made. length made ≤ INLINE_ACES)
+        → IfErr result (λ error. error ≢ Nfs4Error.Memory) }
+{
+    let mut draft = ArrayVec::<RawAce, N>::new();
+    change(alloc, &mut draft, raws, mode, rule)?;
+    Ok(write_raws(draft.as_slice(), out))
+}
+
+/// Puts the list with the mode set by the rule.
+pub(crate) fn write_changed(
+    alloc: Global,
+    raws: &[RawAce],
+    mode: Mode,
+    rule: ModeRule,
+    out: &mut [RawAce],
+) -> Result<usize, Nfs4Error>
+    ensures value { PutsUnless (changed rule mode raws.now) result out.old out.new }
+    ensures short { length raws.now ≤ INLINE_ACES
+        → IfOk (changed rule mode raws.now) (λ made. length made ≤ INLINE_ACES)
+        → IfErr result (λ error. error ≢ Nfs4Error.Memory) }
+{
+    if raws.len() <= FEW_ACES {
+        write_within::<MADE_OF_FEW>(alloc, raws, mode, rule, out)
+    } else {
+        write_within::<MAX_ACES>(alloc, raws, mode, rule, out)
+    }
+}
+
+/// Puts the list with a mode set (within RFC 8881, section 6.4.1.1) in front of `out`, if it has
+/// room for it, and else leaves `out` as it was, and answers how many entries it has. The mode is
+/// set by the rule of this number: 0 is `Profile`, 1 `Least`, 2 `Keep`. All bits that have a
+/// meaning stay. A mode above octal 777, or no rule, is the fault `Argument`, before all others,
+/// and a list that would have more than 128 entries is `TooMany`. Memory runs out only if the list,
+/// or the one that it becomes, has more than `INLINE_ACES` entries.
 #[tactic(auto, unfolding(crate::specs::ModeChange::chmod_of))]
-pub fn raws_with_mode(
+pub fn write_with_mode(
     alloc: Global,
     raws: &[RawAce],
     mode: u32,
     how: u32,
-) -> Result<RawAces, Nfs4Error>
-    ensures value { Answers (λ draft. draft.items) result (chmod_of raws.now mode how) }
+    out: &mut [RawAce],
+) -> Result<usize, Nfs4Error>
+    ensures value { PutsUnless (chmod_of raws.now mode how) result out.old out.new }
     ensures short { length raws.now ≤ INLINE_ACES
         → IfOk (chmod_of raws.now mode how) (λ made. length made ≤ INLINE_ACES)
         → IfErr result (λ error. error ≢ Nfs4Error.Memory) }
 {
     let mode = mode_of_number(mode)?;
     let rule = rule_of_number(how)?;
-    changed(alloc, raws, mode, rule)
+    write_changed(alloc, raws, mode, rule, out)
 }

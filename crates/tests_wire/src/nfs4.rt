@@ -4,9 +4,9 @@
 use acl_nfs4::Kind;
 use acl_wire::{
     Decided, Making, Nfs4Error, Nfs4Fault, Purpose, RawAce, RawAsker, RawDifference, acl4_of_mode,
-    acl4_of_xdr, mode_made, put_xdr_raws, raws_allow, raws_created, raws_decide, raws_delete,
-    raws_difference, raws_fault, raws_grant, raws_inherited, raws_mode, raws_text, raws_with_mode,
-    read_raw_aces, write_raw_aces, write_xdr,
+    acl4_of_xdr, mode_made, put_xdr_raws, raws_allow, raws_decide, raws_delete, raws_difference,
+    raws_fault, raws_grant, raws_mode, raws_text, read_raw_aces, write_created, write_inherited,
+    write_raw_aces, write_with_mode, write_xdr,
 };
 use std::alloc::Global;
 
@@ -323,9 +323,9 @@ fn is_made(alloc: Global, folder: &[RawAce], kind: u32) -> Option<(usize, u32)> 
         umask: 0o022,
         how: 1,
     };
-    let list = raws_created(alloc, folder, &making).ok()?;
-    let mode = mode_made(&making, list.is_some());
-    Some((list.map_or(0, |list| list.len()), mode))
+    let mut out = [NOTHING; 8];
+    let count = write_created(alloc, folder, &making, &mut out).ok()?;
+    Some((count.unwrap_or(0), mode_made(&making, count.is_some())))
 }
 
 /// Directories inherit the entry of the group 50; with the mode that is its own entry, to read, to
@@ -368,8 +368,9 @@ const KEPT: RawAce = RawAce {
 
 /// The entry at a place of what the entries become by a mode, and how many there are.
 fn is_changed(alloc: Global, raws: &[RawAce], how: u32, place: usize) -> Option<(usize, RawAce)> {
-    let made = raws_with_mode(alloc, raws, 0o640, how).ok()?;
-    Some((made.len(), *made.as_slice().get(place)?))
+    let mut out = [NOTHING; 8];
+    let count = write_with_mode(alloc, raws, 0o640, how, &mut out).ok()?;
+    Some((count, *out.get(place)?))
 }
 
 /// The group has no more than it had: the entry stands behind the two of the owner, as it was.
@@ -443,8 +444,9 @@ fn what_is_decided_of_a_long_list(rt: HostRuntime) {
 
 /// The one entry that a file inherits.
 fn is_inherited(alloc: Global, raws: &[RawAce]) -> Option<RawAce> {
-    let below = raws_inherited(alloc, raws, Kind::File).ok()?;
-    below.as_slice().first().copied()
+    let mut out = [NOTHING; 2];
+    let count = write_inherited(alloc, raws, Kind::File, &mut out).ok()?;
+    (count == 1).then_some(out[0])
 }
 
 /// Files inherit the entry, which keeps its bits but the flags of inheritance.

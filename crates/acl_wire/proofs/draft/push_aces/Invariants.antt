@@ -4,4 +4,4 @@ use Rattle.acl_wire.proofs.draft.push_aces.Given as goal
 
 -- the entries so far, and those to come, are the whole
 abbrev pub invariant-loop-ace : goal.invariant-loop-ace
-invariant-loop-ace l = l.draft.items ++ raws_of (drop l.ace-index l.aces) ≡ l.fn.draft.items ++ raws_of l.aces
+invariant-loop-ace g l = l.draft.items ++ raws_of (drop l.ace-index l.aces) ≡ l.fn.draft.items ++ raws_of l.aces

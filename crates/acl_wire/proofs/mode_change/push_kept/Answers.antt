@@ -1,21 +1,20 @@
-use Rattle.acl_nfs4.specs.declared.limits.TheConstants.{MAX_ACES}
 use Rattle.acl_nfs4.proofs.ListLemmas.{OnErr-from}
 use Rattle.acl_posix.specs.Perms.{bits_of}
 use Rattle.acl_wire.proofs.PlacesLoop.{kept_all, kept_next, kept_too_long}
 use Rattle.acl_wire.proofs.mode_change.push_kept.Goals as goal
 
 pub returns-in_err-push_kept_of-clause-full : goal.returns-in_err-push_kept_of-clause-full
-returns-in_err-push_kept_of-clause-full c =
+returns-in_err-push_kept_of-clause-full g c =
     OnErr-from c.from_residual.result
     (kept_too_long c.args.raws.now c.args.aces.now c.requires c.loop-place.place (bits_of c.args.group) c.loop-place.draft.items _ c.loop-place.invariant
-    c.loop-place-test.true c.index-aces-place.result c.index-aces-place.is MAX_ACES c.in_err-push_kept_of.ensures.full)
+    c.loop-place-test.true c.index-aces-place.result c.index-aces-place.is g.row.N c.in_err-push_kept_of.ensures.full)
 
 pub loop-place-preserved : goal.loop-place-preserved
-loop-place-preserved c =
+loop-place-preserved g c =
     rw c.in_ok-push_kept_of.ensures.ok
     (kept_next c.args.raws.now c.args.aces.now c.requires c.loop-place.place (bits_of c.args.group) c.loop-place.draft.items _ c.loop-place.invariant
     c.loop-place-test.true c.index-aces-place.result c.index-aces-place.is)
 
 pub returns-clause-ok : goal.returns-clause-ok
-returns-clause-ok c =
+returns-clause-ok g c =
     kept_all c.args.raws.now c.args.aces.now c.requires c.loop-place.place (bits_of c.args.group) c.loop-place.draft.items _ c.loop-place.invariant c.loop-place-test.false

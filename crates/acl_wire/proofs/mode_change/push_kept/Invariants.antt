@@ -7,6 +7,6 @@ use Rattle.acl_wire.proofs.mode_change.push_kept.Given as goal
 
 -- the entries so far, and what those to come leave, are the whole
 abbrev pub invariant-loop-place : goal.invariant-loop-place
-invariant-loop-place l =
+invariant-loop-place g l =
     l.draft.items ++ raws_of (kept_of_list (bits_of l.group) (kept_aces (drop l.place l.raws) (drop l.place l.aces)))
     ≡ l.fn.draft.items ++ raws_of (kept_of_list (bits_of l.group) (kept_aces l.raws l.aces))

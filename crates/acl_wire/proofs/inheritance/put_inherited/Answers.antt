@@ -1,10 +1,10 @@
 use Rattle.std.proofs.Common.{◌≡◌, ◌∙◌, ◌++◌, ◌∷◌, [], ap, sym, arith, length, length-append}
 use Rattle.acl_wire.proofs.PlacesLoop.{inherited_all, inherited_next, inherited_none}
-use Rattle.acl_wire.proofs.inheritance.all_inherited.Goals as goal
-use Rattle.acl_wire.proofs.inheritance.all_inherited.Goals.{in-Some, in_default}
+use Rattle.acl_wire.proofs.inheritance.put_inherited.Goals as goal
+use Rattle.acl_wire.proofs.inheritance.put_inherited.Goals.{in-Some, in_default}
 
 pub loop-place-preserved : goal.loop-place-preserved
-loop-place-preserved c = elim c.match-inherited.branch [
+loop-place-preserved g c = elim c.match-inherited.branch [
   | in-Some w ↦
       let items : c.match-inherited.draft.items ≡ c.loop-place.draft.items ++ w.in-Some.below ∷ [] = rw w.draft-is w.push.ensures.items in
       let made = inherited_next c.args.raws.now c.args.aces.now c.requires.same c.loop-place.place c.args.kind c.loop-place.draft.items _ c.loop-place.invariant.0
@@ -17,5 +17,5 @@ loop-place-preserved c = elim c.match-inherited.branch [
 ]
 
 pub returns-clause-value : goal.returns-clause-value
-returns-clause-value c =
+returns-clause-value g c =
     inherited_all c.args.raws.now c.args.aces.now c.requires.same c.loop-place.place c.args.kind c.loop-place.draft.items _ c.loop-place.invariant.0 c.loop-place-test.false
