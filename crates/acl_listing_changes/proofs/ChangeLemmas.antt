@@ -15,6 +15,7 @@ use Rattle.acl_listings.specs.Block.{path_of}
 use Rattle.acl_listings.specs.Cursor.{HandsOut, IsOver, blocks_to_come}
 use Rattle.acl_listings.specs.Listing.{Block}
 use Rattle.acl_listings.specs.declared.fault.BlockFault.{BlockFault}
+use Rattle.acl_reports.specs.Endings.{ending_of_both, with_difference}
 use Rattle.acl_reports.specs.Listed.{counted, ending_of, fault_in, last_lines, no_blocks, with_item, with_stranger_of}
 use Rattle.acl_reports.specs.Paths.{block_for, first_path, lists, or_first}
 use Rattle.acl_reports.specs.Placed.{Placed, in_places, in_places_after}
@@ -22,7 +23,7 @@ use Rattle.acl_reports.specs.Strangers.{no_strangers, with_stranger}
 use Rattle.acl_reports.specs.declared.strangers.Strangers.{Strangers}
 use Rattle.acl_reports.specs.declared.tally.Tally.{Tally}
 use Rattle.acl_listing_changes.specs.ChangeSteps.{Appended, AreMet, BeginsLeft, Closing, EndsLeft, HandsOn, Here, IsLast, IsOpening, IsStep, Left, Missing, Opening, SeenValue, ReportsLeft, ReportsMissing, ReportsReported, Reported, fault_here, final_tally, left_to_report, missing_from, nothing_seen, seen_on, reported_from}
-use Rattle.acl_listing_changes.specs.Changes.{After, Before, Gone, IsChangeAnswer, IsChangeBegun, Named, Next, OfAfter, Step, ReportsEach, ReportsIf, ReportsNextBy, ReportsStep, Wording, apart_by, apart_text, ending_of_both, fault_after, fault_before, item_of, items_after, items_before, items_of, part_of, steps_of, strangers_of, tally_of, unless_repeated, with_difference}
+use Rattle.acl_listing_changes.specs.Changes.{After, Before, Gone, IsChangeAnswer, IsChangeBegun, Named, Next, OfAfter, Step, ReportsEach, ReportsIf, ReportsNextBy, ReportsStep, Wording, apart_by, apart_text, fault_after, fault_before, item_of, items_after, items_before, items_of, part_of, steps_of, strangers_of, tally_of, unless_repeated}
 use Rattle.acl_listing_changes.specs.Kept.{place_of}
 use Rattle.acl_listing_changes.specs.declared.between.progress.Stage.TheVariants as stage
 use Rattle.acl_listing_changes.proofs.FirstPathLemmas.{first_more}

@@ -6,12 +6,12 @@ use Rattle.acl_names.specs.Names.{Names}
 use Rattle.acl_cli.specs.Commands.{Answer}
 use Rattle.acl_cli.specs.Reporting.{is_empty}
 use Rattle.acl_cli.specs.declared.command.Ending.{Ending}
-use Rattle.acl_cli.specs.declared.command.Ending.TheVariants.{Answered, InPart, Differs}
 use Rattle.acl_listings.specs.Cursor.{blocks_to_come}
 use Rattle.acl_listings.specs.Listing.{Block}
 use Rattle.acl_listings.specs.declared.fault.BlockFault.{BlockFault}
 use Rattle.acl_listings.specs.declared.fault.BlockFault.TheVariants.{TooLong, BadHeader}
 use Rattle.acl_listings.specs.declared.fault.BlockFault.TheVariants.{RepeatedPath}
+use Rattle.acl_reports.specs.Endings.{ending_of_both, with_difference}
 use Rattle.acl_reports.specs.Listed.{AreSaid, IsFaultLine, Item, Part, ending_of, last_lines}
 use Rattle.acl_reports.specs.Listed.{no_blocks, strangers_with, tally_with}
 use Rattle.acl_reports.specs.Paths.{block_for, first_path, lists}
@@ -170,16 +170,6 @@ ReportsEach Reports (step ∷ steps) reported said = (first : List ℕ) × (rest
     × (one : List ℕ)
     × (more : List ℕ) × Reports step first one × ReportsEach Reports steps rest more
     × (reported ≡ first ++ rest) × (said ≡ one ++ more)
-
--- two listings are answered if both are
-abbrev pub ending_of_both : Ending → Ending → Ending
-ending_of_both Answered second = second
-ending_of_both first second = InPart
-
--- and differ if something is reported, where this is asked
-abbrev pub with_difference : Bool → Ending → Ending
-with_difference true Answered = Differs
-with_difference _ ending = ending
 
 abbrev pub ending_between : Wording → Named → Named → List ℕ → Ending
 ending_between wording before after reported =

@@ -12,7 +12,6 @@ mod reporter;
 mod seen;
 mod sides;
 
-pub use changes::{ending_of_both, with_difference};
 pub use faults::unless_repeated;
 pub(crate) use known::Known;
 pub(crate) use named::report_between;

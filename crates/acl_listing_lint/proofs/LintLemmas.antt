@@ -3,7 +3,6 @@ use Rattle.std.proofs.Common.{◌≡◌, ◌∙◌, ◌++◌, ◌+◌, ℕ, Bool
 use Rattle.acl_cli.specs.Reporting.{LeadsOn, is_empty}
 use Rattle.acl_cli.specs.declared.command.Ending.{Ending}
 use Rattle.acl_cli.specs.declared.command.Ending.TheVariants.{Answered}
-use Rattle.acl_listing_changes.specs.Changes.{with_difference}
 use Rattle.acl_listings.specs.Block.{FileValue, file_by}
 use Rattle.acl_listings.specs.Cursor.{HandsOut, IsOver, blocks_to_come}
 use Rattle.acl_listings.specs.Faults.{IsFaultOf}
@@ -12,6 +11,7 @@ use Rattle.acl_listings.specs.declared.fault.BlockFault.{BlockFault}
 use Rattle.acl_listings.specs.declared.fault.FileFault.{FileFault}
 use Rattle.acl_listings.specs.declared.fault.FileFault.TheVariants.{Block as OfBlock, Memory}
 use Rattle.acl_people.specs.Host.{names_of_host}
+use Rattle.acl_reports.specs.Endings.{with_difference}
 use Rattle.acl_reports.specs.Listed.{IsSaid, Item, Part, closing, ending_of, fault_in, first_guess, is_fault, is_unread, no_blocks, reported_of, tally_with, with_item}
 use Rattle.acl_reports.specs.declared.tally.Tally.{Tally}
 use Rattle.acl_listing_lint.specs.Findings.{IsPartBy, IsPartOf, LintAsking, seen_behind}

@@ -3,10 +3,10 @@ use Rattle.std.specs.Prelude.{◌≡◌, ◌⊎◌, ◌&&◌, ℕ, Bool, not, Li
 use Rattle.std.specs.Prelude.{IfSome}
 use Rattle.acl_cli.specs.Commands.{Answer}
 use Rattle.acl_cli.specs.Reporting.{is_empty}
-use Rattle.acl_listing_changes.specs.Changes.{with_difference}
 use Rattle.acl_listings.specs.Cursor.{blocks_to_come}
 use Rattle.acl_listings.specs.Listing.{Block}
 use Rattle.acl_people.specs.Host.{names_of_host}
+use Rattle.acl_reports.specs.Endings.{with_difference}
 use Rattle.acl_reports.specs.Listed.{AreSaid, Item, Part, closing, ending_of, no_blocks, reported}
 use Rattle.acl_reports.specs.Listed.{tally_with}
 use Rattle.acl_reports.specs.declared.tally.Tally.{Tally}

@@ -10,10 +10,9 @@ ghost use Rattle.acl_listing_lint.specs.LintsMeaning.{named_meaning};
 use crate::block::report_block;
 use crate::seen::{Seen, nothing_seen};
 use acl_cli::{Ending, ErrorOutput, Failure, OpenFiles, Reason, Reporting, report_each};
-use acl_listing_changes::with_difference;
 use acl_listings::Blocks;
 use acl_people::Host;
-use acl_reports::{INPUT, Tally, advance};
+use acl_reports::{INPUT, Tally, advance, with_difference};
 use std::alloc::Global;
 use std::io::{Read, Write};
 

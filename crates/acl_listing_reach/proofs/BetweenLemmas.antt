@@ -7,10 +7,10 @@ use Rattle.acl_cli.specs.Reporting.{is_empty}
 use Rattle.acl_cli.specs.declared.command.Ending.{Ending}
 use Rattle.acl_listings.specs.Cursor.{blocks_to_come}
 use Rattle.acl_listings.specs.Listing.{Block}
+use Rattle.acl_reports.specs.Endings.{ending_of_both, with_difference}
 use Rattle.acl_reports.specs.Listed.{ending_of, items_after, last_lines}
 use Rattle.acl_reports.specs.declared.strangers.Strangers.{Strangers}
 use Rattle.acl_reports.specs.declared.tally.Tally.{Tally}
-use Rattle.acl_listing_changes.specs.Changes.{ending_of_both, with_difference}
 use Rattle.acl_listing_reach.specs.AnsweredSteps.{AreAnswered}
 use Rattle.acl_listing_reach.specs.BetweenSteps.{AreTextsBy, IsAnswerBy, IsBegunBy, closing_by}
 use Rattle.acl_listing_reach.specs.Once.{At, part_once}

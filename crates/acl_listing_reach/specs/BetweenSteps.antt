@@ -3,9 +3,9 @@
 use Rattle.std.specs.Prelude.{◌≡◌, ℕ, List, ◌++◌, ◌&&◌, not}
 use Rattle.acl_cli.specs.Commands.{Answer}
 use Rattle.acl_cli.specs.Reporting.{is_empty}
+use Rattle.acl_reports.specs.Endings.{ending_of_both, with_difference}
 use Rattle.acl_reports.specs.Listed.{ending_of, last_lines}
 use Rattle.acl_reports.specs.declared.counts.Counts.{Counts}
-use Rattle.acl_listing_changes.specs.Changes.{ending_of_both, with_difference}
 use Rattle.acl_listing_reach.specs.ReachAnswer.{apart_text}
 use Rattle.acl_listing_reach.specs.ReachText.{ReachAsking, report_text}
 use Rattle.acl_listing_reach.specs.declared.answered.Answered.{Answered}

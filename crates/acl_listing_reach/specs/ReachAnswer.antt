@@ -6,12 +6,12 @@ use Rattle.acl_names.specs.Names.{Names}
 use Rattle.acl_cli.specs.Commands.{Answer}
 use Rattle.acl_cli.specs.Reporting.{is_empty}
 use Rattle.acl_cli.specs.declared.command.Ending.{Ending}
+use Rattle.acl_reports.specs.Endings.{ending_of_both, with_difference}
 use Rattle.acl_reports.specs.Listed.{AreSaid, Item, ending_of, last_lines_with, no_blocks}
 use Rattle.acl_reports.specs.Listed.{tally_with}
 use Rattle.acl_reports.specs.Strangers.{no_strangers}
 use Rattle.acl_reports.specs.declared.stranger.Stranger.{Stranger}
 use Rattle.acl_reports.specs.declared.tally.Tally.{Tally}
-use Rattle.acl_listing_changes.specs.Changes.{ending_of_both, with_difference}
 use Rattle.acl_listing_changes.specs.Impacting.{apart_line}
 use Rattle.acl_listing_reach.specs.Once.{At, has_path, paths_of}
 use Rattle.acl_listing_reach.specs.ReachText.{ReachAsking, report_text}

@@ -13,9 +13,9 @@ use crate::answered::{Answered, answer_listing};
 use crate::lines::Asking;
 use crate::report::{push_if_apart, report_report};
 use acl_cli::{Ending, ErrorOutput, Failure, Misuse, OpenFiles};
-use acl_listing_changes::{ending_of_both, open_listing, with_difference};
+use acl_listing_changes::open_listing;
 use acl_people::Host;
-use acl_reports::{BlockReporter, INPUT};
+use acl_reports::{BlockReporter, INPUT, ending_of_both, with_difference};
 use std::alloc::{AllocError, Global};
 use std::io::{Read, Write};
 

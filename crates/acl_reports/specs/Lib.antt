@@ -1,6 +1,7 @@
 pub mod Files
 pub mod Strangers
 pub mod Listed
+pub mod Endings
 pub mod Reporting
 pub mod Output
 pub mod Seen

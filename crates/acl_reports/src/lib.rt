@@ -4,6 +4,7 @@
 
 mod blocks;
 mod counts;
+mod endings;
 mod files;
 mod laws;
 mod lines;
@@ -17,6 +18,7 @@ mod tally;
 
 pub use blocks::{BlockReporter, push_fault, push_fault_at};
 pub use counts::Counts;
+pub use endings::{ending_of_both, with_difference};
 pub use files::owners_and_list;
 pub use laws::{closing_laws, output_laws};
 pub use named::{INPUT, listing_field, report_named};

@@ -4,7 +4,7 @@ ghost use Rattle.acl_cli.specs.Commands.{FrontWentOut, NothingWentOut, WentOut};
 ghost use Rattle.acl_cli.specs.Failures.{failed_write};
 ghost use Rattle.acl_reports.specs.Reporting.{IsListingFailure};
 ghost use Rattle.acl_listing_changes.specs.Changes.{IsChangeAnswer, IsChangeBegun, OfAfter};
-ghost use Rattle.acl_listing_changes.specs.Changes.{OfListings, ending_of_both, with_difference};
+ghost use Rattle.acl_listing_changes.specs.Changes.{OfListings};
 
 use super::kept::{KeptListing, keep_blocks};
 use super::opening::opening_of;
@@ -14,6 +14,7 @@ use super::seen::Seen;
 use super::sides::Sides;
 use acl_cli::{Ending, ErrorOutput, Failure, Reporting, report_each};
 use acl_listings::Blocks;
+use acl_reports::{ending_of_both, with_difference};
 use std::alloc::Global;
 use std::io::{Read, Write};
 
@@ -61,27 +62,6 @@ impl<'n, 't, C: ChangeReporter, A: Read + Drop> Reporting<'n> for Changes<'n, 't
                 Ok(some)
             }
         }
-    }
-}
-
-/// How a report on two listings ends, if the blocks of each, counted alone, end so.
-pub fn ending_of_both(first: Ending, second: Ending) -> Ending
-    ensures { result ≡ ending_of_both first second }
-{
-    match first {
-        Ending::Answered => second,
-        _ => Ending::InPart,
-    }
-}
-
-/// How a report ends, if `asks` says that the exit status depends on differences, and `some` that
-/// there are any.
-pub fn with_difference(asks: bool, some: bool, ending: Ending) -> Ending
-    ensures { result ≡ with_difference (asks && some) ending }
-{
-    match ending {
-        Ending::Answered if asks && some => Ending::Differs,
-        _ => ending,
     }
 }
 

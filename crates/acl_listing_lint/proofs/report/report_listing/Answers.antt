@@ -3,8 +3,8 @@ use Rattle.std.proofs.Math.Seq.{take-length}
 use Rattle.std.specs.Io.KnownBytes.{Appends}
 use Rattle.acl_cli.specs.Commands.{FrontWentOut}
 use Rattle.acl_cli.specs.declared.command.Ending.{Ending}
-use Rattle.acl_listing_changes.specs.Changes.{with_difference}
 use Rattle.acl_reports.proofs.BlocksLemmas.{front_out}
+use Rattle.acl_reports.specs.Endings.{with_difference}
 use Rattle.acl_listing_lint.specs.Findings.{LintAsking}
 use Rattle.acl_listing_lint.specs.Lints.{BeginsLints}
 use Rattle.acl_listing_lint.specs.LintSteps.{IsBegun, Left, left_of}

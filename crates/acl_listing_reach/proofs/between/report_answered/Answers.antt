@@ -3,7 +3,7 @@ use Rattle.acl_cli.specs.Commands.{FrontWentOut}
 use Rattle.acl_cli.specs.ErrorOutput.{ErrorText, Reports}
 use Rattle.acl_cli.specs.Reporting.{is_empty}
 use Rattle.acl_reports.proofs.BlocksLemmas.{front_out}
-use Rattle.acl_listing_changes.specs.Changes.{ending_of_both, with_difference}
+use Rattle.acl_reports.specs.Endings.{ending_of_both, with_difference}
 use Rattle.acl_listing_reach.specs.BetweenSteps.{IsBegunBy}
 use Rattle.acl_listing_reach.specs.ReachText.{report_text}
 use Rattle.acl_listing_reach.specs.Asking.{asking_by}

@@ -3,10 +3,11 @@ use Rattle.std.proofs.Math.Seq.{take-length}
 use Rattle.std.specs.Io.KnownBytes.{Appends}
 use Rattle.acl_cli.specs.Commands.{FrontWentOut}
 use Rattle.acl_cli.specs.declared.command.Ending.{Ending}
+use Rattle.acl_reports.specs.Endings.{ending_of_both, with_difference}
 use Rattle.acl_reports.specs.Listed.{ending_of}
 use Rattle.acl_reports.proofs.BlocksLemmas.{front_out}
 use Rattle.acl_listing_changes.specs.ChangeSteps.{AreKnown, Left, nothing_seen}
-use Rattle.acl_listing_changes.specs.Changes.{IsChangeBegun, Named, OfAfter, ending_of_both, with_difference}
+use Rattle.acl_listing_changes.specs.Changes.{IsChangeBegun, Named, OfAfter}
 use Rattle.acl_listing_changes.specs.declared.between.progress.Stage.TheVariants as stage
 use Rattle.acl_listing_changes.proofs.ChangeLemmas.{answers_changes, begins_changes, begins_reported, ended_gone}
 use Rattle.acl_listing_changes.proofs.between.changes.report_changes.Goals as goal
