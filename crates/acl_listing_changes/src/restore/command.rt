@@ -11,8 +11,8 @@ use std::io::{Read, Write};
 
 /// The end of help: the answer, and the exit statuses.
 const ANSWERS: &str = "For example:
-  getfacl -Rn /srv/share > before
-  getfacl -Rn /srv/share | aclctl restore before - | setfacl --restore=-
+  getfacl -Rnp /srv/share > before
+  getfacl -Rnp /srv/share | aclctl restore before - | setfacl --restore=-
 
 Prints the blocks of BEFORE whose path has another text in AFTER, byte for byte.
 setfacl takes them to restore owner, group, flags, access and default list of

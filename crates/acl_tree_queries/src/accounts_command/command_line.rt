@@ -13,8 +13,9 @@ Prints a line NAME:x:UID:GID::: for each user, and then NAME:x:GID:MEMBER,MEMBER
 for each group, as getent passwd and getent group print them. A user's GID is
 that of the first group, or 65534 if the user is in none.
 
-Exit status: 0 with an answer; 1 if a file can't be read; 2 if the words are
-wrong; 3 if memory runs out or the answer can't be written.";
+Exit status: 0 with an answer; 1 if the setup is refused or a file can't be
+read; 2 if the words are wrong; 3 if memory runs out or the answer can't be
+written.";
 
 /// The words of the line.
 const WORDS: [Word<'static>; 1] = [SETUP];

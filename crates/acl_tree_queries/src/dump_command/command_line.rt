@@ -9,9 +9,9 @@ const ANSWERS: &str = "Prints a session that first takes all permissions from th
 creates each file in the order of the paths and sets its lists. Run over the
 same setup, it makes the same tree. Ids are decimal.
 
-Exit status: 0 with an answer; 1 if a file can't be read or a line would be too
-long; 2 if the words are wrong; 3 if memory runs out or the answer can't be
-written.";
+Exit status: 0 with an answer; 1 if the setup is refused, a file can't be read
+or a line would be too long; 2 if the words are wrong; 3 if memory runs out or
+the answer can't be written.";
 
 /// The words of the line, in the order of help.
 const WORDS: [Word<'static>; 2] = [

@@ -13,8 +13,9 @@ and nfs4_getfacl print it: its path, owner, group and entries. Ids are decimal.
 An NFSv4 list without entries gives a block without entries, which the other
 commands refuse.
 
-Exit status: 0 with an answer; 1 if a file can't be read; 2 if the words are
-wrong; 3 if memory runs out or the answer can't be written.";
+Exit status: 0 with an answer; 1 if the setup is refused or a file can't be
+read; 2 if the words are wrong; 3 if memory runs out or the answer can't be
+written.";
 
 /// The words of the line, in the order of help.
 const WORDS: [Word<'static>; 2] = [
