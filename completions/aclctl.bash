@@ -92,7 +92,7 @@ _aclctl() {
     fi
     _aclctl_place
     kind=$(_aclctl_kind "${words[1]}" "$place")
-    if [[ $option =~ ^--(accounts|setup|session|before)$ ]]; then
+    if [[ $option =~ ^--(accounts|accounts-after|setup)$ ]]; then
         _aclctl_files "${current#"$option="}" "$2"
     elif [[ $option == --form ]]; then
         _aclctl_choose 'nfs4 freebsd' "${current#"$option="}"
