@@ -3,7 +3,7 @@ use Rattle.std.specs.Prelude.{ℕ, Bool, ◌==◌, ◌&&◌, ◌||◌, not, List
 use Rattle.acl_names.specs.Bytes.{backslash, carriage_return, newline}
 use Rattle.acl_accounts.specs.Names.{is_octal, is_pair, octal_value}
 
--- the bytes of a path that getfacl prints as octal digits, or a backslash as two
+-- the bytes of a path that getfacl prints in another way than as they are
 abbrev pub is_escaped : ℕ → Bool
 is_escaped byte = (byte == newline) || (byte == carriage_return) || (byte == backslash)
 
