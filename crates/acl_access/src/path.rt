@@ -14,16 +14,37 @@ fn is_control(byte: u8) -> bool
     byte < b' ' || byte == 127
 }
 
-/// Whether any byte is such a control.
-fn has_controls(path: &[u8]) -> bool
-    ensures { result ≡ list_any is_control path.now }
+/// How many bytes of a path are looked at at once.
+const CHUNK: usize = 16;
+
+/// Whether any of these bytes is such a control.
+#[inline(always)]
+fn chunk_has_controls(bytes: &[u8; CHUNK]) -> bool
+    ensures { result ≡ list_any is_control bytes.now }
 {
     let mut found = false;
-    // It goes on to the end, so that one step compares many bytes.
-    for byte in path {
+    // It goes on to the end, so that one step compares all of them.
+    for byte in bytes {
         found |= is_control(*byte);
     }
     found
+}
+
+/// Whether any byte is such a control. The last chunk has what is left behind the whole ones, and
+/// maybe bytes in front of it again.
+fn has_controls(path: &[u8]) -> bool
+    ensures { result ≡ list_any is_control path.now }
+{
+    let Some(last) = path.last_chunk::<CHUNK>() else {
+        return path.iter().any(|byte| is_control(*byte));
+    };
+    let mut found = false;
+    let mut rest = path;
+    while let Some((chunk, behind)) = rest.split_first_chunk::<CHUNK>() {
+        found |= chunk_has_controls(chunk);
+        rest = behind;
+    }
+    found || chunk_has_controls(last)
 }
 
 /// Appends a byte as paths are printed.

@@ -1,8 +1,15 @@
-use Rattle.std.proofs.Common.{◌≡◌, take}
+use Rattle.std.proofs.Common.{◌≡◌, ◌-◌, ◌≤◌, ◌||◌, drop, length}
 use Rattle.std.specs.List.{list_any}
 use Rattle.acl_access.specs.Paths.{is_control}
 use Rattle.acl_access.proofs.path.has_controls.Given as goal
 
--- whether one of the bytes so far is one
-abbrev pub invariant-loop-byte : goal.invariant-loop-byte
-invariant-loop-byte l = l.found ≡ list_any is_control (take l.byte-index l.path)
+-- one of all is one if one of those before the rest is, or one of the rest
+abbrev pub invariant-loop-chunk : goal.invariant-loop-chunk
+invariant-loop-chunk l = record {
+  any : list_any is_control l.path ≡ (l.found || list_any is_control l.rest);
+  rest : l.rest ≡ drop (length l.path - length l.rest) l.path;
+  short : length l.rest ≤ length l.path;
+}
+
+abbrev pub decreases-loop-chunk : goal.decreases-loop-chunk
+decreases-loop-chunk l = length l.rest
