@@ -27,7 +27,7 @@ use crate::places::find_by_id;
 use crate::requesters::requesters_of;
 use crate::rows::{GroupRow, Rows, UserRow, read_rows};
 use crate::written::WrittenAccount;
-use acl_names::{Gid, NameFault, Requester, ResolveNames, Uid, read_decimal_until};
+use acl_names::{Gid, NameFault, Requester, ResolveNames, Uid, read_decimal, read_decimal_until};
 use arrayvec::ArrayVec;
 use std::alloc::{AllocError, Global};
 use std::marker::Model;
@@ -248,12 +248,23 @@ impl ResolveNames for Accounts {
     ghost names = { names_of };
 
     fn uid_written(&self, text: &[u8]) -> Result<Uid, NameFault> {
+        // Most texts are numbers, which need no room.
+        if let Some(number) = read_decimal(text) {
+            return self
+                .uid(WrittenAccount::Number(number))
+                .ok_or(NameFault::Unknown);
+        }
         let mut room = ArrayVec::new();
         let written = WrittenAccount::read(text, &mut room).ok_or(NameFault::Malformed)?;
         self.uid(written).ok_or(NameFault::Unknown)
     }
 
     fn gid_written(&self, text: &[u8]) -> Result<Gid, NameFault> {
+        if let Some(number) = read_decimal(text) {
+            return self
+                .gid(WrittenAccount::Number(number))
+                .ok_or(NameFault::Unknown);
+        }
         let mut room = ArrayVec::new();
         let written = WrittenAccount::read(text, &mut room).ok_or(NameFault::Malformed)?;
         self.gid(written).ok_or(NameFault::Unknown)

@@ -28,5 +28,5 @@ pub use laws::{lines_have_shapes, rows_are_read_again};
 pub use limits::{
     MAX_ACCOUNT_GROUPS, MAX_ACCOUNT_NAME, MAX_ACCOUNT_USERS, MAX_ACCOUNTS_TEXT, limits_in_numbers,
 };
-pub use quoting::{first_unquoted, octal_front, push_name};
+pub use quoting::{first_unquoted, is_pair, octal_front, push_name};
 pub use written::{WrittenAccount, is_account_name};

@@ -113,7 +113,8 @@ pub fn octal_front(text: &[u8]) -> Option<u8>
     None
 }
 
-fn is_pair(first: u8, second: u8) -> bool
+/// Whether these are two backslashes, which getfacl writes for one.
+pub fn is_pair(first: u8, second: u8) -> bool
     ensures { result ≡ is_pair first second }
 {
     first == b'\\' && second == b'\\'
