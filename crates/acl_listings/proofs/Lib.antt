@@ -22,3 +22,6 @@ pub mod Nfs4Lemmas
 pub mod NumberedEntries
 pub mod NumberedLemmas
 pub mod ValidLemmas
+pub mod FileLines
+pub mod LinePieces
+pub mod SharedLemmas

@@ -5,6 +5,7 @@ use Rattle.std.proofs.lemmas.List.Elements.{All-cons, All-head, All-nil, All-tai
 use Rattle.std.proofs.lemmas.List.Splits.{join_with_byte-slice_split, length-slice_split, slice_split_at, slice_split_none}
 use Rattle.std.proofs.Math.Dec.{eqb-suc-zero}
 use Rattle.std.proofs.lemmas.Bool.{and_parts}
+use Rattle.std.proofs.lemmas.Bool.Decides.{Decides-eqb}
 use Rattle.acl_names.specs.Bytes.{newline}
 use Rattle.acl_names.specs.Pieces.{lines_of, parts, without_empty_last}
 use Rattle.acl_listings.specs.Extent.{EndsBlock, HasFullLines, has_full_lines, newlines_in}
@@ -49,38 +50,39 @@ full_parts begun (byte ∷ bytes) is = by_first (is_newline byte) refl is (full_
         }
 
 -- the parts of any text
-record SomeParts (text : List ℕ) : Type 0 where
+record SomeParts (separator : ℕ) (text : List ℕ) : Type 0 where
   pub first : List ℕ
   pub more : List (List ℕ)
-  pub are : parts newline text ≡ first ∷ more
+  pub are : parts separator text ≡ first ∷ more
 
-some_parts : (text : List ℕ) → SomeParts text
-some_parts [] = record { first = []; more = []; are = refl }
-some_parts (byte ∷ bytes) = by_first (is_newline byte) refl (some_parts bytes)
+some_parts : (separator : ℕ) (text : List ℕ) → SomeParts separator text
+some_parts separator [] = record { first = []; more = []; are = refl }
+some_parts separator (byte ∷ bytes) = by_first (byte == separator) refl (some_parts separator bytes)
   where
-    by_first : (b : Bool) → is_newline byte ≡ b → SomeParts bytes → SomeParts (byte ∷ bytes)
+    by_first : (b : Bool) → (byte == separator) ≡ b → SomeParts separator bytes → SomeParts separator (byte ∷ bytes)
     by_first true at rest = record {
       first = [];
-      more = parts newline bytes;
-      are = ap (λ b. cond b ([] ∷ parts newline bytes) (onto_first byte (parts newline bytes))) at;
+      more = parts separator bytes;
+      are = ap (λ b. cond b ([] ∷ parts separator bytes) (onto_first byte (parts separator bytes))) at;
     }
     by_first false at rest = record {
       first = byte ∷ rest.first;
       more = rest.more;
-      are = ap (λ b. cond b ([] ∷ parts newline bytes) (onto_first byte (parts newline bytes))) at ∙ ap (onto_first byte) rest.are;
+      are = ap (λ b. cond b ([] ∷ parts separator bytes) (onto_first byte (parts separator bytes))) at ∙ ap (onto_first byte) rest.are;
     }
 
--- the parts on both sides of a newline
-pub parts-append : (front back : List ℕ) → parts newline (front ++ newline ∷ back) ≡ parts newline front ++ parts newline back
-parts-append [] back = refl
-parts-append (byte ∷ front) back = by_first (is_newline byte) (some_parts front) (parts-append front back)
+-- the parts on both sides of a separator
+pub parts-append : (separator : ℕ) (front back : List ℕ) → parts separator (front ++ separator ∷ back) ≡ parts separator front ++ parts separator back
+parts-append separator [] back =
+    ap (λ b. cond b ([] ∷ parts separator back) (onto_first separator (parts separator back))) ((Decides-eqb separator separator).1 refl)
+parts-append separator (byte ∷ front) back = by_first (byte == separator) (some_parts separator front) (parts-append separator front back)
   where
-    by_first : (b : Bool) → SomeParts front → parts newline (front ++ newline ∷ back) ≡ parts newline front ++ parts newline back
-        → cond b ([] ∷ parts newline (front ++ newline ∷ back)) (onto_first byte (parts newline (front ++ newline ∷ back)))
-        ≡ cond b ([] ∷ parts newline front) (onto_first byte (parts newline front)) ++ parts newline back
+    by_first : (b : Bool) → SomeParts separator front → parts separator (front ++ separator ∷ back) ≡ parts separator front ++ parts separator back
+        → cond b ([] ∷ parts separator (front ++ separator ∷ back)) (onto_first byte (parts separator (front ++ separator ∷ back)))
+        ≡ cond b ([] ∷ parts separator front) (onto_first byte (parts separator front)) ++ parts separator back
     by_first true some rest = ap (λ more. [] ∷ more) rest
-    by_first false some rest = ap (onto_first byte) (rest ∙ ap (λ lines. lines ++ parts newline back) some.are)
-        ∙ ap (λ lines. onto_first byte lines ++ parts newline back) (sym some.are)
+    by_first false some rest = ap (onto_first byte) (rest ∙ ap (λ lines. lines ++ parts separator back) some.are)
+        ∙ ap (λ lines. onto_first byte lines ++ parts separator back) (sym some.are)
 
 -- lines of which the last isn't empty
 all_full : (lines : List (List ℕ)) → All IsFull lines → without_empty_last lines ≡ lines
@@ -102,8 +104,8 @@ before_lines (line ∷ other ∷ lines) next more = before_more line other (line
 -- the lines of a text behind a newline
 lines_of-behind : (front back : List ℕ) → lines_of (front ++ newline ∷ back) ≡ parts newline front ++ lines_of back
 lines_of-behind front back =
-    let some = some_parts back in
-    ap without_empty_last (parts-append front back ∙ ap (λ lines. parts newline front ++ lines) some.are)
+    let some = some_parts newline back in
+    ap without_empty_last (parts-append newline front back ∙ ap (λ lines. parts newline front ++ lines) some.are)
     ∙ before_lines (parts newline front) some.first some.more
     ∙ ap (λ lines. parts newline front ++ without_empty_last lines) (sym some.are)
 

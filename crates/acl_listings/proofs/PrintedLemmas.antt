@@ -87,7 +87,7 @@ parts-joined line (next ∷ lines) each =
 -- a newline at the end adds no piece
 pub pieces-ended : (text : List ℕ) → pieces (text ++ newline ∷ []) ≡ pieces text
 pieces-ended text =
-    ap (flat_map line_pieces) (parts-append text []) ∙ flat_map-append line_pieces (parts newline text) ([] ∷ []) ∙ append-nil (pieces text)
+    ap (flat_map line_pieces) (parts-append newline text []) ∙ flat_map-append line_pieces (parts newline text) ([] ∷ []) ∙ append-nil (pieces text)
 
 -- the lines of entries
 

@@ -62,13 +62,14 @@ fn after_file_word(line: &[u8]) -> Option<&[u8]>
     }
 }
 
-/// The text after a word, if the line begins with it.
-pub(crate) fn after_prefix<'t>(word: &[u8], line: &'t [u8]) -> Option<&'t [u8]>
+/// The text after a word, if the line begins with it. That the word's length is known has it
+/// compared in one step.
+pub(crate) fn after_prefix<'t, const N: usize>(word: &[u8; N], line: &'t [u8]) -> Option<&'t [u8]>
     ensures { option_map (λ rest. rest.now) result ≡ after_prefix word.now line.now }
 {
-    match line.strip_prefix(word) {
-        Some(rest) => Some(rest),
-        None => None,
+    match line.split_first_chunk::<N>() {
+        Some((front, rest)) if front == word => Some(rest),
+        _ => None,
     }
 }
 

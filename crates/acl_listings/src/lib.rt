@@ -19,6 +19,7 @@ mod lists;
 mod newlines;
 mod printing;
 mod rule;
+mod shared;
 mod source;
 mod steps;
 mod way;

@@ -4,11 +4,12 @@ ghost use Rattle.std.specs.Prelude.{◌≡◌, ◌∷◌, [], MatchOption};
 ghost use Rattle.acl_listings.specs.Way.{is_above, is_absolute, leads, place_below, steps_among};
 ghost use Rattle.acl_listings.specs.Way.{steps_cmp, steps_of};
 
+use crate::shared::behind_shared;
 use acl_names::Parts;
 use std::cmp::Ordering;
 
 /// The separator of a path's steps.
-const SLASH: u8 = b'/';
+pub(crate) const SLASH: u8 = b'/';
 
 /// Where a path is, relative to a folder's path.
 #[derive(Clone, Copy, Debug, PartialEq, Eq)]
@@ -58,8 +59,9 @@ pub fn place_below(above: &[u8], path: &[u8]) -> Place
     if is_absolute(above) != is_absolute(path) {
         return Place::Elsewhere;
     }
-    let mut folder = Parts::new(SLASH, above);
-    let mut steps = Parts::new(SLASH, path);
+    let (folder_end, path_end) = behind_shared(above, path);
+    let mut folder = Parts::new(SLASH, folder_end);
+    let mut steps = Parts::new(SLASH, path_end);
     while let Some(first) = next_step(&mut folder) {
         match next_step(&mut steps) {
             Some(step) if step == first => {}
