@@ -3,3 +3,4 @@ pub mod ClosingLemmas
 pub mod OutputLemmas
 pub mod SeenLemmas
 pub mod StrangersLemmas
+pub mod SightedLemmas

@@ -4,7 +4,7 @@ use Rattle.std.specs.List.{cons_option, filter_map}
 use Rattle.std.specs.Option.{option_or}
 use Rattle.std.specs.Prelude.{slice_get}
 use Rattle.acl_reports.specs.Listed.{Item, strangers_with, with_stranger_of}
-use Rattle.acl_reports.specs.Strangers.{no_strangers, with_stranger}
+use Rattle.acl_reports.specs.Strangers.{first_of, no_strangers, with_stranger}
 use Rattle.acl_reports.specs.StrangersLaws.{CountsStrangers, sighting}
 use Rattle.acl_reports.specs.declared.stranger.Stranger.{Stranger}
 use Rattle.acl_reports.specs.declared.strangers.FirstStranger.{FirstStranger}
@@ -16,9 +16,6 @@ counted start sightings = record {
   files = start.files + length sightings;
   first = option_or start.first (slice_get sightings 0);
 }
-
-abbrev seen : ℕ → Stranger → FirstStranger
-seen line found = record { id = found.id; line = line + found.before }
 
 or_none : (first : Option FirstStranger) → first ≡ option_or first None
 or_none None = refl
@@ -33,11 +30,11 @@ none_more start =
     let files : start.files ≡ start.files + 0 = omega arith in
     ap₂ (λ files first. record { files = files; first = first }) files (or_none start.first)
 
-one_more : (start : Strangers) (line : ℕ) (found : Option Stranger) (rest : List FirstStranger) → counted (with_stranger start line found) rest ≡ counted start (cons_option (option_map (seen line) found) rest)
+one_more : (start : Strangers) (line : ℕ) (found : Option Stranger) (rest : List FirstStranger) → counted (with_stranger start line found) rest ≡ counted start (cons_option (option_map (first_of line) found) rest)
 one_more start line None rest = refl
 one_more start line (Some found) rest =
-    let files : (start.files + 1) + length rest ≡ start.files + length (seen line found ∷ rest) = omega arith in
-    ap₂ (λ files first. record { files = files; first = first }) files (still_first start.first (slice_get rest 0) (seen line found))
+    let files : (start.files + 1) + length rest ≡ start.files + length (first_of line found ∷ rest) = omega arith in
+    ap₂ (λ files first. record { files = files; first = first }) files (still_first start.first (slice_get rest 0) (first_of line found))
 
 counted_on : (stranger : List ℕ → Option Stranger) (start : Strangers) (items : List Item) → strangers_with stranger start items ≡ counted start (filter_map (sighting stranger) items)
 counted_on stranger start [] = none_more start

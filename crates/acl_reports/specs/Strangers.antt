@@ -1,7 +1,7 @@
 -- The ids that a listing names and no account has.
-use Rattle.std.specs.Prelude.{ℕ, ◌+◌, Bool, ◌||◌, false, List, [], ◌∷◌, ◌++◌, Option, Some, None}
-use Rattle.std.specs.Prelude.{Result, Ok, Err, codes, decimal, drop, if◌then◌else◌, is_some}
-use Rattle.std.specs.Prelude.{option_map, unwrap_or}
+use Rattle.std.specs.Prelude.{◌≡◌, ⊤, ℕ, ◌+◌, Bool, ◌||◌, false, true, List, [], ◌∷◌, ◌++◌}
+use Rattle.std.specs.Prelude.{Option, Some, None, Result, Ok, Err, codes, decimal, drop}
+use Rattle.std.specs.Prelude.{if◌then◌else◌, is_some, option_map, unwrap_or}
 use Rattle.std.specs.List.{list_any}
 use Rattle.std.specs.Option.{option_and_then, option_map_or, option_or}
 use Rattle.acl_names.specs.Bytes.{newline}
@@ -27,6 +27,8 @@ use Rattle.acl_listings.specs.ListLines.{is_default}
 use Rattle.acl_listings.specs.declared.lists.Lists.{Lists}
 use Rattle.acl_listings.specs.declared.lists.Lists.TheVariants as lists
 use Rattle.acl_people.specs.Host.{Host, lacks_group, lacks_user, names_of_host}
+use Rattle.acl_reports.specs.declared.sighting.Sighting.{Sighting}
+use Rattle.acl_reports.specs.declared.sighting.Sighting.TheVariants.{Nobody, Another, First}
 use Rattle.acl_reports.specs.declared.stranger.Stranger.{Stranger}
 use Rattle.acl_reports.specs.declared.strangers.FirstStranger.{FirstStranger}
 use Rattle.acl_reports.specs.declared.strangers.Strangers.{Strangers}
@@ -152,16 +154,26 @@ none_sought text = None
 abbrev pub no_strangers : Strangers
 no_strangers = record { files = 0; first = None }
 
+-- an id, of a block whose first line has this number
+abbrev pub first_of : ℕ → Stranger → FirstStranger
+first_of line found = record { id = found.id; line = line + found.before }
+
 -- a block more, whose first line has this number, and which names this id first, if any
 abbrev pub with_stranger : Strangers → ℕ → Option Stranger → Strangers
 with_stranger strangers line None = strangers
 with_stranger strangers line (Some found) = record {
   files = strangers.files + 1;
-  first = Some (unwrap_or strangers.first (record {
-    id = found.id;
-    line = line + found.before;
-  }));
+  first = Some (unwrap_or strangers.first (first_of line found));
 }
+
+-- what a block is counted as that names this id first, if any, behind blocks of which so much is
+-- counted
+abbrev pub IsSighting : Strangers → Option Stranger → Sighting → Type 0
+IsSighting strangers None Nobody = ⊤
+IsSighting strangers (Some found) Another = is_some strangers.first ≡ true
+IsSighting strangers (Some found) (First stranger) =
+    (strangers.first ≡ None) × (stranger ≡ found)
+IsSighting strangers _ _ = ⊥
 
 abbrev pub first_words : FirstStranger → List ℕ
 first_words first = decimal first.id ++ codes " (line " ++ decimal first.line ++ codes ")"

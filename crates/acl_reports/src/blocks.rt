@@ -1,6 +1,6 @@
 //! Reporting on a listing, block by block.
-ghost use Rattle.std.specs.Prelude.{◌≡◌, ◌+◌, ◌++◌, ◌∷◌, ◌⊎◌, ℕ, IfErr, IfOk, List, [], OnErr};
-ghost use Rattle.std.specs.Prelude.{OnOk, Option, codes, decimal};
+ghost use Rattle.std.specs.Prelude.{◌≡◌, ◌+◌, ◌++◌, ◌∷◌, ◌⊎◌, ℕ, Bool, IfErr, IfOk, List, []};
+ghost use Rattle.std.specs.Prelude.{OnErr, OnOk, Option, codes, decimal, is_some, true};
 ghost use Rattle.acl_cli.specs.Commands.{FrontWentOut, NothingWentOut, WentOut};
 ghost use Rattle.acl_cli.specs.ErrorOutput.{line_of_words};
 ghost use Rattle.acl_cli.specs.Failures.{failed_write};
@@ -14,6 +14,7 @@ ghost use Rattle.acl_reports.specs.Reporting.{IsPart, UnlessMemory};
 use crate::counts::Counts;
 use crate::lines::push_fault_line;
 use crate::next_block::advance;
+use crate::sighting::sighting_of;
 use crate::stranger::Stranger;
 use acl_cli::{Ending, ErrorOutput, Failure, Reporting, RunFault, report_each};
 use acl_listings::{BlockFault, Blocks, FileFault, faulty_line};
@@ -34,8 +35,8 @@ pub trait BlockReporter {
     /// Which id without an account a block with a text names first, if one.
     ghost stranger: { Self → List ℕ → Option Stranger };
 
-    /// The one of the block that was pushed last.
-    ghost found: { Self → Option Stranger };
+    /// Whether the block that was pushed last names one.
+    ghost found: { Self → Bool };
 
     /// Appends what is reported for the block with this text, or reports why that isn't known.
     fn push(&mut self, alloc: Global, text: &[u8], out: &mut Vec<u8>) -> Result<(), FileFault>
@@ -46,12 +47,17 @@ pub trait BlockReporter {
             → IsPart (part self.old earlier text.now) result out.old.items out.new.items }
         ensures strangers { UnlessMemory result (stranger self.new ≡ stranger self.old) }
         ensures found { (earlier : List (List ℕ)) → Stands self.old earlier
-            → UnlessMemory result (found self.new ≡ stranger self.old text.now) };
+            → UnlessMemory result (found self.new ≡ is_some (stranger self.old text.now)) };
 
-    /// The first id without an account that the block names which was pushed last, if that is
-    /// looked for.
-    fn found(&self) -> Option<Stranger>
+    /// Whether the block that was pushed last names an id without an account, if that is looked
+    /// for.
+    fn names_stranger(&self) -> bool
         ensures { result ≡ found self.now };
+
+    /// The first such id that the block with this text names, which names one.
+    fn stranger(&self, text: &[u8]) -> Option<Stranger>
+        ensures { is_some (stranger self.now text.now) ≡ true
+            → result ≡ stranger self.now text.now };
 }
 
 /// The rest of a listing, and its report so far.
@@ -112,6 +118,7 @@ pub fn push_fault<'n>(
 
 /// Appends the report for the block with this text to `out`, or the line about its fault to
 /// `beside`, and returns the fault, if there is one.
+#[inline(always)]
 fn report_block<'n, T: BlockReporter>(
     alloc: Global,
     name: &'n str,
@@ -125,7 +132,7 @@ fn report_block<'n, T: BlockReporter>(
     ensures same { OnOk result (T.part reporter.new ≡ T.part reporter.old) }
     ensures strangers { OnOk result (T.stranger reporter.new ≡ T.stranger reporter.old) }
     ensures found { (earlier : List (List ℕ)) → T.Stands reporter.old earlier
-        → OnOk result (T.found reporter.new ≡ T.stranger reporter.old text.now) }
+        → OnOk result (T.found reporter.new ≡ is_some (T.stranger reporter.old text.now)) }
     ensures stands { (earlier : List (List ℕ)) → T.Stands reporter.old earlier
         → OnOk result (T.Stands reporter.new (earlier ++ text.now ∷ [])) }
     ensures reported { (earlier : List (List ℕ)) → T.Stands reporter.old earlier
@@ -189,15 +196,9 @@ impl<'n, 't, T: BlockReporter + Drop, R: Read + Drop> Listing<'n, 't, T, R> {
             out,
             beside,
         )?;
-        let found = self.reporter.found();
-        match self.counts.with(line, text, fault, found) {
-            Some(counts) => {
-                self.counts = counts;
-                Ok(())
-            }
-            // No listing has so many blocks or lines.
-            None => Err(Failure::Unread(self.name)),
-        }
+        let sighting = sighting_of(&self.reporter, &self.counts.strangers, text);
+        self.counts.add(self.name, line, text, fault, sighting)?;
+        Ok(())
     }
 }
 

@@ -1,12 +1,14 @@
 //! How many blocks a listing has, and what is said of them at its end.
-ghost use Rattle.std.specs.Prelude.{◌≡◌, ◌++◌, IfSome, OnOk};
+ghost use Rattle.std.specs.Prelude.{◌≡◌, ◌++◌, IfErr, OnOk, Option};
 ghost use Rattle.acl_reports.specs.Listed.{counted, ending_of, last_lines, no_blocks};
-ghost use Rattle.acl_reports.specs.Strangers.{no_strangers, with_stranger};
+ghost use Rattle.acl_reports.specs.Reporting.{IsListingFailure};
+ghost use Rattle.acl_reports.specs.Strangers.{IsSighting, no_strangers, with_stranger};
+ghost use Rattle.acl_reports.specs.declared.stranger.Stranger.{Stranger};
 
-use crate::stranger::Stranger;
+use crate::sighting::Sighting;
 use crate::strangers::Strangers;
 use crate::tally::Tally;
-use acl_cli::Ending;
+use acl_cli::{Ending, Failure};
 use acl_listings::BlockFault;
 use std::alloc::AllocError;
 
@@ -30,24 +32,30 @@ impl Counts {
         }
     }
 
-    /// Counts another block, with this text, whose first line has this number; with its fault, if
-    /// it has one, and the first id that it names and no account has, if there is one. `None` if
-    /// there are more than can be counted, which no listing has.
-    pub fn with(
-        self,
+    /// Counts another block of the listing of this name, with this text, whose first line has this
+    /// number; with its fault, if it has one, and as this of those that name ids without an
+    /// account. Fails with the name if there are more than can be counted, which no listing has.
+    pub fn add<'n>(
+        &mut self,
+        name: &'n str,
         line: u64,
         text: &[u8],
         fault: Option<BlockFault>,
-        stranger: Option<Stranger>,
-    ) -> Option<Counts>
-        ensures tally { IfSome result (λ counts.
-            counts.tally ≡ counted self.tally text.now fault) }
-        ensures strangers { IfSome result (λ counts.
-            counts.strangers ≡ with_stranger self.strangers line stranger) }
+        sighting: Sighting,
+    ) -> Result<(), Failure<'n>>
+        ensures tally { OnOk result (self.new.tally ≡ counted self.old.tally text.now fault) }
+        ensures strangers { (found : Option Stranger)
+            → IsSighting self.old.strangers found sighting
+            → OnOk result (self.new.strangers ≡ with_stranger self.old.strangers line found) }
+        ensures failed { IfErr result (IsListingFailure name.entry.now) }
     {
-        let tally = self.tally.with(text, fault)?;
-        let strangers = self.strangers.with(line, stranger)?;
-        Some(Counts { tally, strangers })
+        match (
+            self.tally.add(text, fault),
+            self.strangers.add(line, sighting),
+        ) {
+            (Some(()), Some(())) => Ok(()),
+            _ => Err(Failure::Unread(name)),
+        }
     }
 
     /// How the report ends.

@@ -10,6 +10,7 @@ use std::io::Read;
 
 /// Goes to the next block of the listing of this name, and returns whether there is one. Fails with
 /// the name if the listing can't be read on, and if memory runs out.
+#[inline(always)]
 pub fn advance<'n, R: Read + Drop>(
     name: &'n str,
     blocks: &mut Blocks<R>,

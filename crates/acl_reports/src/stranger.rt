@@ -1,15 +1,19 @@
 //! The first id that a block names and no account has.
-ghost use Rattle.std.specs.Prelude.{◌≡◌, false};
+ghost use Rattle.std.specs.Prelude.{◌≡◌, ℕ, List, Ok, false, is_some, true};
 ghost use Rattle.std.specs.List.{list_any};
 ghost use Rattle.std.specs.Option.{option_map_or};
 ghost use Rattle.acl_names.specs.Bytes.{newline};
 ghost use Rattle.acl_names.specs.Pieces.{parts, pieces};
+ghost use Rattle.acl_listings.specs.Block.{file_by};
+ghost use Rattle.acl_listings.specs.Lines.{after_line};
 ghost use Rattle.acl_listings.specs.Views.{view_file};
-ghost use Rattle.acl_reports.specs.Strangers.{entries_in, file_stranger, first_stranger};
+ghost use Rattle.acl_people.specs.Host.{names_of_host};
+ghost use Rattle.acl_reports.specs.Strangers.{entries_in, first_stranger};
 ghost use Rattle.acl_reports.specs.Strangers.{group_stranger, has_stranger, have_stranger};
 ghost use Rattle.acl_reports.specs.Strangers.{is_strange, is_strange_ace, line_stranger};
 ghost use Rattle.acl_reports.specs.Strangers.{list_stranger, names_stranger, owner_stranger};
 ghost use Rattle.acl_reports.specs.Strangers.{piece_stranger, placed, stranger_behind};
+ghost use Rattle.acl_reports.specs.Strangers.{stranger_in};
 ghost use Rattle.acl_reports.specs.Strangers.{tag_stranger, unless_group, unless_user};
 ghost use Rattle.acl_reports.specs.Strangers.{who_stranger};
 
@@ -122,9 +126,13 @@ fn lists_have_stranger(host: &Host, lists: &Lists) -> bool
     }
 }
 
-/// Whether the file names an id that no account has.
-fn names_stranger(host: &Host, file: &File<'_>) -> bool
-    ensures { result ≡ names_stranger host.now (view_file file.now) }
+/// Whether the file names an id that no account has: its owner, its group or an entry.
+pub fn names_stranger(host: &Host, file: &File<'_>) -> bool
+    ensures named { result ≡ names_stranger host.now (view_file file.now) }
+    // A line of a block that says this file does.
+    ensures sighted { (text : List ℕ)
+        → file_by (names_of_host host.now) text ≡ Ok (view_file file.now)
+        → result ≡ is_some (stranger_in host.now text) }
 {
     host.lacks_user(file.owner)
         || host.lacks_group(file.group)
@@ -227,9 +235,8 @@ fn group_stranger(host: &Host, line: &[u8]) -> Option<u32>
     }
 }
 
-/// The first id without an account that the lines behind a block's first name. Of a block that
-/// reads, and whose file names such an id, this is what `file_stranger` finds.
-pub fn stranger_behind(host: &Host, lines: &[u8]) -> Option<Stranger>
+/// The first id without an account that the lines behind a block's first name.
+fn stranger_behind(host: &Host, lines: &[u8]) -> Option<Stranger>
     ensures { result ≡ stranger_behind host.now lines.now }
 {
     if let Some(id) = owner_stranger(host, before_byte(b'\n', lines)) {
@@ -243,14 +250,13 @@ pub fn stranger_behind(host: &Host, lines: &[u8]) -> Option<Stranger>
     list_stranger(host, form_of(list), list)
 }
 
-/// The first id without an account that the block of the file names, by its lines behind the first.
-/// It reads these only if the file names one.
-pub fn file_stranger(host: &Host, file: &File<'_>, lines: &[u8]) -> Option<Stranger>
-    ensures { result ≡ file_stranger host.now (view_file file.now) lines.now }
+/// The first id without an account that the block with this text names, whose file `names_stranger`
+/// says to name one.
+#[tactic(auto, using(crate::proofs::SightedLemmas::block_named))]
+pub fn block_stranger(host: &Host, text: &[u8]) -> Option<Stranger>
+    ensures lines { result ≡ stranger_behind host.now (after_line text.now) }
+    ensures named { is_some (stranger_in host.now text.now) ≡ true
+        → result ≡ stranger_in host.now text.now }
 {
-    if names_stranger(host, file) {
-        stranger_behind(host, lines)
-    } else {
-        None
-    }
+    stranger_behind(host, lines_behind(text))
 }

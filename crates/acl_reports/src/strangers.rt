@@ -1,9 +1,11 @@
 //! How many files of a listing name ids that no account has.
-ghost use Rattle.std.specs.Prelude.{◌≡◌, ◌++◌, IfSome, OnOk};
-ghost use Rattle.acl_reports.specs.Strangers.{first_words, no_strangers, strangers_line};
-ghost use Rattle.acl_reports.specs.Strangers.{with_stranger};
+ghost use Rattle.std.specs.Prelude.{◌≡◌, ◌++◌, IfSome, OnOk, Option};
+ghost use Rattle.acl_reports.specs.Strangers.{IsSighting, first_of, first_words, no_strangers};
+ghost use Rattle.acl_reports.specs.Strangers.{strangers_line, with_stranger};
+ghost use Rattle.acl_reports.specs.declared.stranger.Stranger.{Stranger};
 
 use crate::lines::{push_number, push_start};
+use crate::sighting::Sighting;
 use crate::stranger::Stranger;
 use std::alloc::AllocError;
 
@@ -21,6 +23,20 @@ pub struct Strangers {
     pub first: Option<FirstStranger>,
 }
 
+impl FirstStranger {
+    /// The id of a block whose first line has this number. `None` if the line's number doesn't fit
+    /// in 64 bits.
+    fn of(line: u64, stranger: Stranger) -> Option<FirstStranger>
+        ensures { IfSome result (λ first. first ≡ first_of line stranger) }
+    {
+        let line = line.checked_add(stranger.before as u64)?;
+        Some(FirstStranger {
+            id: stranger.id,
+            line,
+        })
+    }
+}
+
 impl Strangers {
     /// No block was seen.
     pub fn new() -> Strangers
@@ -32,27 +48,19 @@ impl Strangers {
         }
     }
 
-    /// One block more, whose first line has this number, and which names this id first, if any.
-    /// `None` if there are more than can be counted, which no listing has.
-    pub fn with(self, line: u64, found: Option<Stranger>) -> Option<Strangers>
-        ensures { IfSome result (λ strangers. strangers ≡ with_stranger self line found) }
+    /// Counts another block, whose first line has this number, as this. `None` if there are more
+    /// than can be counted, which no listing has; then it is no count any more.
+    pub fn add(&mut self, line: u64, sighting: Sighting) -> Option<()>
+        ensures { (found : Option Stranger) → IsSighting self.old found sighting
+            → IfSome result (λ _. self.new ≡ with_stranger self.old line found) }
     {
-        let Some(stranger) = found else {
-            return Some(self);
-        };
-        let files = self.files.checked_add(1)?;
-        let line = line.checked_add(stranger.before as u64)?;
-        let first = match self.first {
-            Some(first) => first,
-            None => FirstStranger {
-                id: stranger.id,
-                line,
-            },
-        };
-        Some(Strangers {
-            files,
-            first: Some(first),
-        })
+        match sighting {
+            Sighting::Nobody => return Some(()),
+            Sighting::Another => {}
+            Sighting::First(stranger) => self.first = Some(FirstStranger::of(line, stranger)?),
+        }
+        self.files = self.files.checked_add(1)?;
+        Some(())
     }
 
     /// Appends the line about so many files of the listing of this name, if one names such an id.

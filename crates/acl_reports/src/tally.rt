@@ -1,6 +1,6 @@
 //! How many blocks a listing has, and how many can't be evaluated.
-ghost use Rattle.std.specs.Prelude.{◌≡◌, ◌++◌, ◌+◌, IfSome, OnOk};
-ghost use Rattle.acl_reports.specs.Listed.{closing, count_line, ending_of, first_guess};
+ghost use Rattle.std.specs.Prelude.{◌≡◌, ◌++◌, IfSome, OnOk};
+ghost use Rattle.acl_reports.specs.Listed.{closing, count_line, counted, ending_of};
 ghost use Rattle.acl_reports.specs.Listed.{guess_line, is_fault, is_unread};
 ghost use Rattle.acl_reports.specs.Listed.{no_blocks};
 
@@ -53,26 +53,17 @@ impl Tally {
     }
 
     /// Counts another block, with this text, and this fault if it has one. `None` if there are more
-    /// than can be counted, which no listing has.
-    pub fn with(self, text: &[u8], fault: Option<BlockFault>) -> Option<Tally>
-        ensures blocks { IfSome result (λ tally. tally.blocks ≡ self.blocks + 1) }
-        ensures faults { IfSome result (λ tally. tally.faults ≡ self.faults + is_fault fault) }
-        ensures unread { IfSome result (λ tally. tally.unread ≡ self.unread + is_unread fault) }
-        ensures guess { IfSome result (λ tally. tally.guess ≡ first_guess self.guess text.now) }
+    /// than can be counted, which no listing has; then it is no count any more.
+    pub fn add(&mut self, text: &[u8], fault: Option<BlockFault>) -> Option<()>
+        ensures { IfSome result (λ _. self.new ≡ counted self.old text.now fault) }
     {
-        let blocks = self.blocks.checked_add(1)?;
-        let faults = self.faults.checked_add(is_fault(fault))?;
-        let unread = self.unread.checked_add(is_unread(fault))?;
-        let guess = match self.guess {
-            Some(guess) => guess,
-            None => Guess::of(text),
-        };
-        Some(Tally {
-            blocks,
-            faults,
-            unread,
-            guess: Some(guess),
-        })
+        self.blocks = self.blocks.checked_add(1)?;
+        self.faults = self.faults.checked_add(is_fault(fault))?;
+        self.unread = self.unread.checked_add(is_unread(fault))?;
+        if self.guess.is_none() {
+            self.guess = Some(Guess::of(text));
+        }
+        Some(())
     }
 
     /// How the report ends.

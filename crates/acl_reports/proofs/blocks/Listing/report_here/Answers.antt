@@ -1,4 +1,4 @@
-use Rattle.std.proofs.Common.{◌≡◌, ◌∙◌, List, ℕ, ap, subst, sym}
+use Rattle.std.proofs.Common.{rules, ◌≡◌, ◌∙◌, List, ℕ, ap, is_some, subst, sym}
 use Rattle.acl_people.specs.Host.{names_of_host}
 use Rattle.acl_reports.specs.Listed.{Item, counted, with_item}
 use Rattle.acl_reports.specs.Reporting.{IsItemReported}
@@ -7,8 +7,8 @@ use Rattle.acl_reports.specs.declared.strangers.Strangers.{Strangers}
 use Rattle.acl_reports.specs.declared.tally.Tally.{Tally}
 use Rattle.acl_reports.proofs.blocks.Listing.report_here.Goals as goal
 
-pub returns-in-Some-clause-reported : goal.returns-in-Some-clause-reported
-returns-in-Some-clause-reported g c = λ earlier stands.
+pub returns-clause-reported : goal.returns-clause-reported
+returns-clause-reported g c = λ earlier stands.
     let was : Tally = c.args.self.now.counts.tally in
     let block = c.args.self.now.blocks.block in
     let item : Item = record { block = block; part = g.T.BlockReporter.part c.args.self.now.reporter earlier block.text } in
@@ -20,11 +20,10 @@ returns-in-Some-clause-reported g c = λ earlier stands.
     c.args.out.now.items c.report_block.new.out.items c.args.beside.now.items c.report_block.new.beside.items) c.line-line.ensures
     (c.in_ok-fault.ensures.reported earlier stands)) in
     let (text, (said, is_said, beside), fault) = reported in
-    let counted_is : c.in-Some.counts.tally ≡ with_item was item =
-    c.in-Some.ensures.tally ∙ ap (λ text. counted was text c.in_ok-fault.fault) c.text-text.ensures ∙ ap (counted was block.text) (sym fault) in
+    let counted_is : c.add.new.self.tally ≡ with_item was item =
+    c.in_ok-add.ensures.tally ∙ ap (λ text. counted was text c.in_ok-fault.fault) c.text-text.ensures ∙ ap (counted was block.text) (sym fault) in
     let stranger = g.T.BlockReporter.stranger c.args.self.now.reporter in
-    let named : c.found-found.result ≡ stranger block.text = c.found-found.ensures ∙ c.in_ok-fault.ensures.found earlier stands ∙ ap stranger c.text-text.ensures in
+    let found : g.T.BlockReporter.found c.report_block.new.reporter ≡ is_some (stranger c.text-text.result.now) = c.in_ok-fault.ensures.found earlier stands in
     let seen : Strangers = c.args.self.now.counts.strangers in
-    let strangers_are : c.in-Some.counts.strangers ≡ with_stranger seen block.line (stranger block.text) =
-    c.in-Some.ensures.strangers ∙ ap (λ line. with_stranger seen line c.found-found.result) c.line-line.ensures ∙ ap (with_stranger seen block.line) named in
+    let strangers_are : c.add.new.self.strangers ≡ with_stranger seen block.line (stranger block.text) = search rules in
     record { text = text; said = said; is_said = is_said; beside_is = beside; tally_is = counted_is; strangers_is = strangers_are }
