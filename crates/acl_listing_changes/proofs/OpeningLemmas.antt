@@ -8,7 +8,6 @@ use Rattle.acl_listings.specs.Listing.{Block}
 use Rattle.acl_listings.specs.declared.fault.BlockFault.{BlockFault}
 use Rattle.acl_reports.specs.Listed.{AreSaid, IsSaid, Item, counted}
 use Rattle.acl_reports.specs.Strangers.{with_stranger}
-use Rattle.acl_reports.specs.declared.stranger.Stranger.{Stranger}
 use Rattle.acl_reports.specs.declared.strangers.Strangers.{Strangers}
 use Rattle.acl_reports.specs.declared.tally.Tally.{Tally}
 use Rattle.acl_listing_changes.specs.ChangeSteps.{AreKnown, IsKnown, IsOpenedTo, known_at, known_by}
@@ -71,13 +70,17 @@ module _ (wording : Wording) (blocks : List Block) where
   none_wrong true fault here is none = absurd (true≢false (sym none ∙ ap is_none is ∙ some_repeated here))
 
   nothing_known : (text : List ℕ) → IsKnown wording text known.Nothing
-  nothing_known text = λ read. absurd (true≢false (sym read))
+  nothing_known text = λ found there. cc
 
-  pub known_rightly : (text : List ℕ) (repeated : Bool) (fault : Option BlockFault) → fault ≡ unless_repeated repeated (wording.fault text) → (stranger : Option Stranger) → stranger ≡ wording.stranger text
-      → IsKnown wording text (known_by fault stranger)
-  known_rightly text repeated (Some fault) is stranger named = nothing_known text
-  known_rightly text repeated None is None named = λ read. (none_wrong repeated None (wording.fault text) is refl, ap is_some (sym named))
-  known_rightly text repeated None is (Some stranger) named = λ read. (none_wrong repeated None (wording.fault text) is refl, ap is_some (sym named))
+  pub known_rightly : (text : List ℕ) (repeated : Bool) (fault : Option BlockFault) → fault ≡ unless_repeated repeated (wording.fault text) → (strange : Bool)
+      → strange ≡ is_some (wording.stranger text) → IsKnown wording text (known_by fault strange)
+  known_rightly text repeated (Some fault) is strange named = nothing_known text
+  known_rightly text repeated None is true named = λ found there.
+      let same : true ≡ found.strange = cc in
+      (none_wrong repeated None (wording.fault text) is refl, sym same ∙ named)
+  known_rightly text repeated None is false named = λ found there.
+      let same : false ≡ found.strange = cc in
+      (none_wrong repeated None (wording.fault text) is refl, sym same ∙ named)
 
   pub known_more : (place : ℕ) (here : Block) (all : List Known) → length all ≡ place → slice_get blocks place ≡ Some here → AreKnown wording blocks all
       → (one : Known) → IsKnown wording here.text one → AreKnown wording blocks (all ++ one ∷ [])

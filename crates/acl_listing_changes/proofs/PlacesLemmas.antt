@@ -1,16 +1,16 @@
 -- The places of the blocks that have a path, and the marks of those that were met.
-use Rattle.std.proofs.Common.{◌≡◌, ◌∙◌, ◌<◌, ◌&&◌, ◌||◌, ◌++◌, ℕ, zero, suc, Bool, true, false, cond, List}
-use Rattle.std.proofs.Common.{[], ◌∷◌, Option, Some, None, ap, arith, bytes_eq, get_or, is_none, is_some}
-use Rattle.std.proofs.Common.{length, nat_lt, not, option_and_then, option_copied, option_map}
+use Rattle.std.proofs.Common.{◌≡◌, ◌∙◌, ◌<◌, ◌≤◌, ◌+◌, ◌-◌, ◌&&◌, ◌||◌, ◌++◌, ℕ, zero, suc, Bool, true, false, cond}
+use Rattle.std.proofs.Common.{List, [], ◌∷◌, Option, Some, None, ap, arith, bytes_eq, drop, drop-cons}
+use Rattle.std.proofs.Common.{get_or, is_some, length, map, nat_lt, option_and_then, option_map}
 use Rattle.std.proofs.Common.{refl, replicate, set, subst, sym, take, eq-eqb}
-use Rattle.std.specs.Borrow.{Bor}
 use Rattle.std.specs.List.{find, list_any}
 use Rattle.std.specs.Option.{option_map_or}
 use Rattle.std.specs.Prelude.{nat_eq, slice_get, unwrap_or}
 use Rattle.std.proofs.lemmas.Bool.{or_parts, true≢false}
 use Rattle.std.proofs.Math.Bool.{or-false, or-true}
 use Rattle.std.proofs.lemmas.Bool.Decides.{Decides-eqb, nat_tests}
-use Rattle.std.proofs.lemmas.List.{get_or-replicate, get_or-set_other, get_or-set_same, length-replicate, length-set}
+use Rattle.std.proofs.lemmas.List.{drop_all, get_or-map, get_or-replicate, get_or-set_other, get_or-set_same}
+use Rattle.std.proofs.lemmas.List.{length-map, length-replicate, length-set}
 use Rattle.std.proofs.lemmas.List.Folds.{list_any-append}
 use Rattle.std.proofs.lemmas.Option.{slice_get_within}
 use Rattle.std.proofs.lemmas.Slice.Eq.{bytes_eq-Decides}
@@ -19,7 +19,8 @@ use Rattle.acl_listings.specs.Block.{path_of}
 use Rattle.acl_listings.specs.Listing.{Block}
 use Rattle.acl_reports.specs.Paths.{block_for, has_path, is_among, lists}
 use Rattle.acl_listing_changes.specs.ChangeSteps.{AreMet, is_marked, is_met, is_place, with_mark}
-use Rattle.acl_listing_changes.specs.Kept.{first_place, is_earlier, place_of}
+use Rattle.acl_listing_changes.specs.Kept.{block_of, first_place, is_earlier, place_of}
+use Rattle.acl_listing_changes.specs.declared.between.kept.KeptBlock.{KeptBlock}
 
 none_below : (place : ℕ) → nat_lt place 0 ≡ false
 none_below place = grind (arith, nat_tests)
@@ -31,28 +32,6 @@ both_more : (place count : ℕ) → nat_lt (suc place) (suc count) ≡ nat_lt pl
 both_more place count = grind (arith, nat_tests)
 
 module _ {X : Type 0} (test : X → Bool) where
-  -- of one more
-  pub place_more : (items : List X) (item : X)
-      → first_place test (items ++ item ∷ []) ≡ option_map_or Some (first_place test items) (cond (test item) (Some (length items)) None)
-  place_more [] item = by (test item)
-    where
-      by : (b : Bool) → cond b (Some 0) (option_map suc None) ≡ cond b (Some 0) None
-      by true = refl
-      by false = refl
-  place_more (here ∷ items) item = by (test here) (place_more items item)
-    where
-      later : (found : Option ℕ) (b : Bool) → option_map suc (option_map_or Some found (cond b (Some (length items)) None))
-          ≡ option_map_or Some (option_map suc found) (cond b (Some (suc (length items))) None)
-      later None true = refl
-      later None false = refl
-      later (Some place) b = refl
-
-      by : (b : Bool) → first_place test (items ++ item ∷ []) ≡ option_map_or Some (first_place test items) (cond (test item) (Some (length items)) None)
-          → cond b (Some 0) (option_map suc (first_place test (items ++ item ∷ [])))
-          ≡ option_map_or Some (cond b (Some 0) (option_map suc (first_place test items))) (cond (test item) (Some (suc (length items))) None)
-      by true more = refl
-      by false more = ap (option_map suc) more ∙ later (first_place test items) (test item)
-
   -- the test passes at one of the first if the first place where it does is one of them
   pub any_of_first : (count : ℕ) (items : List X) → list_any test (take count items) ≡ option_map_or (λ place. nat_lt place count) (first_place test items) false
   any_of_first zero items = by (first_place test items)
@@ -308,64 +287,46 @@ none_met before = record {
   each = λ place within. get_or-replicate (length before) place false false within;
 }
 
--- ---- the first places of one block more
+-- ---- the first place from a place on
 
--- whether something was looked up
-pub none_found : (found : Option (Bor ℕ)) (b : Bool) → is_some found ≡ not b → is_none (option_copied found) ≡ b
-none_found None true is = refl
-none_found None false is = cc
-none_found (Some item) true is = cc
-none_found (Some item) false is = refl
+module _ {X : Type 0} (test : X → Bool) (items : List X) where
+  abbrev pub first_from : ℕ → Option ℕ
+  first_from at = option_map (λ place. place + at) (first_place test (drop at items))
 
-or_none : (found : Option ℕ) → option_map_or Some found None ≡ found
-or_none None = refl
-or_none (Some place) = refl
-
-module _ (blocks : List Block) (block : Block) (path : List ℕ) where
-  abbrev there : Option ℕ
-  there = first_place (has_path path) blocks
-
-  abbrev with_more : Option ℕ
-  with_more = first_place (has_path path) (blocks ++ block ∷ [])
-
-  -- another path's block changes nothing
-  other_block : has_path path block ≡ false → with_more ≡ there
-  other_block other = place_more (has_path path) blocks block ∙ ap (λ b. option_map_or Some there (cond b (Some (length blocks)) None)) other ∙ or_none there
-
-  has_key : (key : List ℕ) → path_of block.text ≡ Some key → has_path path block ≡ bytes_eq path key
-  has_key key is = ap (λ own. option_map_or (bytes_eq path) own false) is
-
-  -- nor does one that has no path
-  pub no_path : path_of block.text ≡ None → with_more ≡ there
-  no_path is = other_block (ap (λ own. option_map_or (bytes_eq path) own false) is)
-
-  -- nor one whose path was there
-  pub known_path : (key : List ℕ) → path_of block.text ≡ Some key → is_none (first_place (has_path key) blocks) ≡ false → with_more ≡ there
-  known_path key is known = by (bytes_eq path key) refl
+  -- from the front it is the first of all
+  pub from_front : first_from 0 ≡ first_place test items
+  from_front = by (first_place test items)
     where
-      some : (found : Option ℕ) → is_none found ≡ false → option_map_or Some found (cond (has_path path block) (Some (length blocks)) None) ≡ found
-      some None none = cc
-      some (Some place) known = refl
+      by : (found : Option ℕ) → option_map (λ place. place + 0) found ≡ found
+      by None = refl
+      by (Some place) = ap (λ (n : ℕ). Some n) (omega arith)
 
-      by : (b : Bool) → bytes_eq path key ≡ b → with_more ≡ there
-      by true same =
-          let equal : path ≡ key = (bytes_eq-Decides path key).0 same in
-          place_more (has_path path) blocks block ∙ some there (ap (λ path. is_none (first_place (has_path path) blocks)) equal ∙ known)
-      by false apart = other_block (has_key key is ∙ apart)
+  -- past the end there is none
+  pub from_end : (at : ℕ) → length items ≤ at → first_from at ≡ None
+  from_end at past = ap (λ rest. option_map (λ place. place + at) (first_place test rest)) (drop_all at items past)
 
-  -- a new path has its first place there
-  pub new_path : (key : List ℕ) → path_of block.text ≡ Some key → is_none (first_place (has_path key) blocks) ≡ true
-      → with_more ≡ cond (bytes_eq path key) (Some (length blocks)) there
-  new_path key is unknown = by (bytes_eq path key) refl
+  -- it is the item there, or after it
+  from_here : (at : ℕ) (item : X) → at < length items → get_or items at item ≡ item → first_from at ≡ cond (test item) (Some at) (first_from (suc at))
+  from_here at item within here =
+      ap (λ rest. option_map (λ place. place + at) (first_place test rest)) (drop-cons items at item within ∙ ap (λ one. one ∷ drop (suc at) items) here)
+      ∙ by (test item) (first_place test (drop (suc at) items))
     where
-      none : (found : Option ℕ) → is_none found ≡ true → option_map_or Some found (cond true (Some (length blocks)) None) ≡ Some (length blocks)
-      none None unknown = refl
-      none (Some place) known = cc
+      by : (b : Bool) (found : Option ℕ) → option_map (λ place. place + at) (cond b (Some 0) (option_map suc found)) ≡ cond b (Some at) (option_map (λ place. place + suc at) found)
+      by true found = ap (λ (n : ℕ). Some n) (omega arith)
+      by false None = refl
+      by false (Some place) = ap (λ (n : ℕ). Some n) (omega arith)
 
-      by : (b : Bool) → bytes_eq path key ≡ b → with_more ≡ cond b (Some (length blocks)) there
-      by true same =
-          let equal : path ≡ key = (bytes_eq-Decides path key).0 same in
-          place_more (has_path path) blocks block
-          ∙ ap (λ b. option_map_or Some there (cond b (Some (length blocks)) None)) (has_key key is ∙ same)
-          ∙ none there (ap (λ path. is_none (first_place (has_path path) blocks)) equal ∙ unknown)
-      by false apart = other_block (has_key key is ∙ apart)
+-- of one block more, before the others
+pub one_before : (blocks : List KeptBlock) (place : ℕ) (kept : KeptBlock) → 0 < place → place ≤ length blocks → get_or blocks (place - 1) kept ≡ kept
+    → (path : List ℕ) (own : Option (List ℕ)) → path_of kept.text.items ≡ own
+    → first_from (has_path path) (map block_of blocks) (place - 1)
+    ≡ cond (option_map_or (bytes_eq path) own false) (Some (place - 1)) (first_from (has_path path) (map block_of blocks) place)
+one_before blocks place kept more within here path own is =
+    let all : List Block = map block_of blocks in
+    let at = place - 1 in
+    let block : Block = block_of kept in
+    let next : suc at ≡ place = omega (arith, more) in
+    let inside : at < length blocks = omega (arith, more, within) in
+    from_here (has_path path) all at block (subst (λ n. at < n) (sym (length-map blocks block_of)) inside) (get_or-map block_of blocks at kept block inside ∙ ap block_of here)
+    ∙ ap (λ own. cond (option_map_or (bytes_eq path) own false) (Some at) (first_from (has_path path) all (suc at))) is
+    ∙ ap (λ n. cond (option_map_or (bytes_eq path) own false) (Some at) (first_from (has_path path) all n)) next

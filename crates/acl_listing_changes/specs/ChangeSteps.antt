@@ -4,7 +4,7 @@ use Rattle.std.specs.Prelude.{◌||◌, List, [], ◌∷◌, ◌++◌, Option, S
 use Rattle.std.specs.Prelude.{is_none, is_some, length, nat_eq, option_map, replicate, set}
 use Rattle.std.specs.Prelude.{slice_get, take}
 use Rattle.std.specs.List.{fold, list_any}
-use Rattle.std.specs.Option.{option_and_then, option_map_or}
+use Rattle.std.specs.Option.{ForSome, option_and_then, option_map_or}
 use Rattle.acl_cli.specs.declared.command.Ending.{Ending}
 use Rattle.acl_listings.specs.Block.{path_of}
 use Rattle.acl_listings.specs.Listing.{Block}
@@ -21,6 +21,7 @@ use Rattle.acl_listing_changes.specs.Changes.{strangers_of, tally_of, unless_rep
 use Rattle.acl_listing_changes.specs.Kept.{place_of}
 use Rattle.acl_listing_changes.specs.declared.between.known.Known.{Known}
 use Rattle.acl_listing_changes.specs.declared.between.known.Known.TheVariants as known
+use Rattle.acl_listing_changes.specs.declared.between.reporter.Found.{Found}
 use Rattle.acl_listing_changes.specs.declared.between.progress.Stage.{Stage}
 use Rattle.acl_listing_changes.specs.declared.between.progress.Stage.TheVariants as stage
 
@@ -58,27 +59,22 @@ abbrev pub is_marked : List Bool → Option ℕ → Bool
 is_marked marks None = false
 is_marked marks (Some place) = get_or marks place false
 
--- whether it is known that nothing is wrong with a block; and that it names such an id
-abbrev pub is_read : Known → Bool
-is_read known.Nothing = false
-is_read known.Plain = true
-is_read known.Strange = true
-
-abbrev pub names_id : Known → Bool
-names_id known.Nothing = false
-names_id known.Plain = false
-names_id known.Strange = true
+-- what is found in a block of which this is known, unless it may have a fault
+abbrev pub found_by : Known → Option Found
+found_by known.Nothing = None
+found_by known.Plain = Some (record { fault = None; strange = false })
+found_by known.Strange = Some (record { fault = None; strange = true })
 
 -- this is so of one with this text
 abbrev pub IsKnown : Wording → List ℕ → Known → Type 0
-IsKnown wording text what = is_read what ≡ true
-    → (wording.fault text ≡ None) × (is_some (wording.stranger text) ≡ names_id what)
+IsKnown wording text what = ForSome (found_by what) (λ found. (wording.fault text ≡ None)
+    × (found.strange ≡ is_some (wording.stranger text)))
 
--- and of one with which this is wrong, if anything is, and which names this id first
-abbrev pub known_by : Option BlockFault → Option Stranger → Known
-known_by (Some fault) stranger = known.Nothing
-known_by None None = known.Plain
-known_by None (Some stranger) = known.Strange
+-- what is known of one with which this is wrong, if anything is, and which names such an id or not
+abbrev pub known_by : Option BlockFault → Bool → Known
+known_by (Some fault) strange = known.Nothing
+known_by None true = known.Strange
+known_by None false = known.Plain
 
 -- of the block at a place that was found
 abbrev pub known_at : List Known → Option ℕ → Known

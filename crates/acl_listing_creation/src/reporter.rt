@@ -97,7 +97,7 @@ impl<'t> NextReporter<'t> {
 }
 
 impl<'t> BlockReporter for NextReporter<'t> {
-    ghost use Rattle.std.specs.Prelude.{None};
+    ghost use Rattle.std.specs.Prelude.{false};
     ghost use Rattle.acl_listing_creation.specs.Next.{next_part};
     ghost use Rattle.acl_listing_creation.specs.NextSteps.{StandsBehind, asking_of};
     ghost use Rattle.acl_reports.specs.Strangers.{none_sought};
@@ -108,7 +108,7 @@ impl<'t> BlockReporter for NextReporter<'t> {
 
     ghost stranger = { λ reporter. none_sought };
 
-    ghost found = { λ reporter. None };
+    ghost found = { λ reporter. false };
 
     fn push(&mut self, alloc: Global, text: &[u8], out: &mut Vec<u8>) -> Result<(), FileFault> {
         let file = read_file(alloc, text, self.host)?;
@@ -117,7 +117,11 @@ impl<'t> BlockReporter for NextReporter<'t> {
         Ok(())
     }
 
-    fn found(&self) -> Option<Stranger> {
+    fn names_stranger(&self) -> bool {
+        false
+    }
+
+    fn stranger(&self, _text: &[u8]) -> Option<Stranger> {
         None
     }
 }

@@ -57,11 +57,8 @@ impl<'n, 't, R: Read + Drop> Linting<'n, 't, R> {
             out,
             beside,
         )?;
-        match self.tally.with(text, fault) {
-            Some(tally) => {
-                self.tally = tally;
-                Ok(())
-            }
+        match self.tally.add(text, fault) {
+            Some(()) => Ok(()),
             // No listing has so many blocks.
             None => Err(Failure::Unread(self.name)),
         }

@@ -1,13 +1,13 @@
 //! What is answered of a listing, path by path.
 ghost use Rattle.std.specs.Prelude.{◌≡◌, ◌++◌, ◌∷◌, [], ℕ, IfErr, IfOk, IfSome, List, OnOk, false};
-ghost use Rattle.std.specs.Prelude.{option_map};
+ghost use Rattle.std.specs.Prelude.{is_some, option_map};
 ghost use Rattle.std.specs.Option.{option_map_or};
 ghost use Rattle.acl_listings.specs.Block.{path_of};
 ghost use Rattle.acl_listings.specs.Cursor.{blocks_to_come};
 ghost use Rattle.acl_people.specs.Host.{names_of_host};
-ghost use Rattle.acl_reports.specs.Listed.{IsSaid, Item, counted, items_after, no_blocks};
+ghost use Rattle.acl_reports.specs.Listed.{IsSaid, Item, items_after, no_blocks};
 ghost use Rattle.acl_reports.specs.Reporting.{IsListingFailure};
-ghost use Rattle.acl_reports.specs.Strangers.{no_strangers, with_stranger};
+ghost use Rattle.acl_reports.specs.Strangers.{no_strangers};
 ghost use Rattle.acl_listing_changes.specs.Changes.{part_of};
 ghost use Rattle.acl_listing_reach.specs.AnsweredSteps.{AreAnswered, AreListed, IsPartBy};
 ghost use Rattle.acl_listing_reach.specs.AnsweredSteps.{letters_unless};
@@ -18,7 +18,7 @@ use acl_cli::Failure;
 use acl_listing_changes::unless_repeated;
 use acl_listings::{BlockFault, Blocks, FileFault, path_of};
 use acl_people::Host;
-use acl_reports::{BlockReporter, Counts, Stranger, advance, push_fault};
+use acl_reports::{BlockReporter, Counts, advance, push_fault, sighting_of};
 use std::alloc::{AllocError, Global};
 use std::io::Read;
 
@@ -32,8 +32,8 @@ pub(crate) struct Answered {
 }
 
 /// Answers a block in place of what `letters` had. Returns what is wrong with it, if anything is;
-/// else `letters` are what it results in. In either case the reporter has found which id without an
-/// account it names first. It fails only if memory runs out.
+/// else `letters` are what it results in. In either case the reporter has found whether it names an
+/// id without an account. It fails only if memory runs out.
 fn letters_of<T: BlockReporter>(
     alloc: Global,
     reporter: &mut T,
@@ -43,7 +43,7 @@ fn letters_of<T: BlockReporter>(
     ensures same { OnOk result (T.part reporter.new ≡ T.part reporter.old) }
     ensures strangers { OnOk result (T.stranger reporter.new ≡ T.stranger reporter.old) }
     ensures found { (earlier : List (List ℕ)) → T.Stands reporter.old earlier
-        → OnOk result (T.found reporter.new ≡ T.stranger reporter.old text.now) }
+        → OnOk result (T.found reporter.new ≡ is_some (T.stranger reporter.old text.now)) }
     ensures stands { (earlier : List (List ℕ)) → T.Stands reporter.old earlier
         → OnOk result (T.Stands reporter.new (earlier ++ text.now ∷ [])) }
     ensures part { (earlier : List (List ℕ)) → T.Stands reporter.old earlier
@@ -121,28 +121,6 @@ fn say<'n>(
     }
 }
 
-/// One block more, with this text, whose first line has this number, of which this is wrong, if
-/// anything is, and which names this id without an account first, if any.
-fn count<'n>(
-    name: &'n str,
-    counts: Counts,
-    line: u64,
-    text: &[u8],
-    fault: Option<BlockFault>,
-    found: Option<Stranger>,
-) -> Result<Counts, Failure<'n>>
-    ensures tally { IfOk result (λ more. more.tally ≡ counted counts.tally text.now fault) }
-    ensures strangers { IfOk result (λ more.
-        more.strangers ≡ with_stranger counts.strangers line found) }
-    ensures failed { IfErr result (IsListingFailure name.entry.now) }
-{
-    match counts.with(line, text, fault, found) {
-        Some(more) => Ok(more),
-        // No listing has so many blocks or lines.
-        None => Err(Failure::Unread(name)),
-    }
-}
-
 impl Answered {
     /// Nothing yet.
     fn new(alloc: Global) -> Answered
@@ -187,11 +165,11 @@ impl Answered {
         ensures failed { IfErr result (IsListingFailure name.entry.now) }
     {
         let own = letters_of(alloc, reporter, text, letters)?;
-        let found = reporter.found();
+        let sighting = sighting_of(reporter, &self.counts.strangers, text);
         let repeated = is_known(&self.known, text);
         let fault = unless_repeated(repeated, own);
         say(name, host, line, text, fault, &mut self.said)?;
-        self.counts = count(name, self.counts, line, text, fault, found)?;
+        self.counts.add(name, line, text, fault, sighting)?;
         let letters = letters_unless(fault, letters.as_slice());
         keep(alloc, repeated, text, letters, &mut self.known)?;
         Ok(())

@@ -43,7 +43,7 @@ fn push_reported(
 }
 
 impl<'t> BlockReporter for TranslateReporter<'t> {
-    ghost use Rattle.std.specs.Prelude.{None, ⊤};
+    ghost use Rattle.std.specs.Prelude.{false, ⊤};
     ghost use Rattle.acl_listing_translation.specs.TranslateSteps.{translating_of};
     ghost use Rattle.acl_listing_translation.specs.Translated.{translate_part};
     ghost use Rattle.acl_reports.specs.Strangers.{none_sought};
@@ -54,7 +54,7 @@ impl<'t> BlockReporter for TranslateReporter<'t> {
 
     ghost stranger = { λ reporter. none_sought };
 
-    ghost found = { λ reporter. None };
+    ghost found = { λ reporter. false };
 
     fn push(&mut self, alloc: Global, text: &[u8], out: &mut Vec<u8>) -> Result<(), FileFault> {
         let file = read_file(alloc, text, self.host)?;
@@ -63,7 +63,11 @@ impl<'t> BlockReporter for TranslateReporter<'t> {
         push_reported(self.pairs, self.form, text, path, acl.aces(), out)
     }
 
-    fn found(&self) -> Option<Stranger> {
+    fn names_stranger(&self) -> bool {
+        false
+    }
+
+    fn stranger(&self, _text: &[u8]) -> Option<Stranger> {
         None
     }
 }

@@ -1,5 +1,5 @@
 //! Faults of a block of one of two listings, and their lines.
-ghost use Rattle.std.specs.Prelude.{◌≡◌, ◌++◌, ℕ, IfErr, IfOk, List, OnOk};
+ghost use Rattle.std.specs.Prelude.{◌≡◌, ◌++◌, ℕ, IfErr, IfOk, List, OnOk, is_some};
 ghost use Rattle.acl_reports.specs.Listed.{IsFaultLine, IsSaid};
 ghost use Rattle.acl_reports.specs.Reporting.{IsListingFailure};
 ghost use Rattle.acl_listing_changes.specs.Changes.{part_of, unless_repeated};
@@ -56,8 +56,8 @@ pub(super) fn say_block<'n, C: ChangeReporter>(
 ) -> Result<Found, Failure<'n>>
     ensures fault { IfOk result (λ found. found.fault
         ≡ unless_repeated repeated ((C.wording reporter.now).fault text.now)) }
-    ensures stranger { IfOk result (λ found.
-        found.stranger ≡ (C.wording reporter.now).stranger text.now) }
+    ensures strange { IfOk result (λ found.
+        found.strange ≡ is_some ((C.wording reporter.now).stranger text.now)) }
     ensures said { IfOk result (λ found. (said : List ℕ) × IsSaid name.entry.now
         (C.wording reporter.now).names (record { line = line; text = text.now })
         (part_of found.fault) said
@@ -65,10 +65,10 @@ pub(super) fn say_block<'n, C: ChangeReporter>(
     ensures failed { IfErr result (IsListingFailure name.entry.now) }
 {
     let found = reporter.find(alloc, text)?;
-    let stranger = found.stranger;
+    let strange = found.strange;
     let fault = unless_repeated(repeated, found.fault);
     if let Some(fault) = fault {
         push_fault(name, reporter, line, text, fault, out)?;
     }
-    Ok(Found { fault, stranger })
+    Ok(Found { fault, strange })
 }

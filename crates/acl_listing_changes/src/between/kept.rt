@@ -78,11 +78,12 @@ fn first_places<'t>(
         ≡ first_place (has_path path) (map block_of blocks.entry.now)) }
 {
     let mut places = HashMap::with_capacity(alloc, blocks.len())?;
-    for place in 0..blocks.len() {
+    let mut place = blocks.len();
+    // From the last to the first, so that the first of a path stays.
+    while place > 0 {
+        place -= 1;
         if let Some(path) = path_of(blocks[place].text.as_slice()) {
-            if places.get(path).is_none() {
-                places.insert(path, place)?;
-            }
+            places.insert(path, place)?;
         }
     }
     Ok(places)

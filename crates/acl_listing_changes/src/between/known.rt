@@ -1,7 +1,7 @@
 //! What is known of the blocks before, so that those which the listing after has unchanged aren't
 //! read again.
-ghost use Rattle.std.specs.Prelude.{◌≡◌};
-ghost use Rattle.acl_listing_changes.specs.ChangeSteps.{known_at, known_by};
+ghost use Rattle.std.specs.Prelude.{◌≡◌, IfSome, None};
+ghost use Rattle.acl_listing_changes.specs.ChangeSteps.{found_by, known_at, known_by};
 
 use super::reporter::Found;
 
@@ -18,12 +18,30 @@ pub(crate) enum Known {
 
 /// What is known of a block in which this was found.
 pub(super) fn known_by(found: Found) -> Known
-    ensures { result ≡ known_by found.fault found.stranger }
+    ensures { result ≡ known_by found.fault found.strange }
 {
-    match (found.fault, found.stranger) {
-        (Some(_), _) => Known::Nothing,
-        (None, None) => Known::Plain,
-        (None, Some(_)) => Known::Strange,
+    match found.fault {
+        Some(_) => Known::Nothing,
+        None if found.strange => Known::Strange,
+        None => Known::Plain,
+    }
+}
+
+/// What is found in a block of which this is known: no fault. `None` if it may have one.
+pub(crate) fn found_by(known: Known) -> Option<Found>
+    ensures known { result ≡ found_by known }
+    ensures plain { IfSome result (λ found. found.fault ≡ None) }
+{
+    match known {
+        Known::Nothing => None,
+        Known::Plain => Some(Found {
+            fault: None,
+            strange: false,
+        }),
+        Known::Strange => Some(Found {
+            fault: None,
+            strange: true,
+        }),
     }
 }
 

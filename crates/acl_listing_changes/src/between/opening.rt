@@ -6,7 +6,7 @@ ghost use Rattle.acl_listing_changes.specs.ChangeSteps.{AreKnown, IsOpenedTo, Is
 use super::faults::say_block;
 use super::kept::KeptListing;
 use super::known::{Known, known_by};
-use super::reporter::ChangeReporter;
+use super::reporter::{ChangeReporter, sighting_of};
 use acl_cli::Failure;
 use acl_reports::Counts;
 use std::alloc::Global;
@@ -29,14 +29,14 @@ fn open_block<'n, C: ChangeReporter>(
     reporter: &C,
     kept: &KeptListing<'_>,
     place: usize,
-    counts: Counts,
+    counts: &mut Counts,
     said: &mut Vec<u8>,
     known: &mut Vec<Known>,
-) -> Result<Counts, Failure<'n>>
+) -> Result<(), Failure<'n>>
     ensures more { place < length kept.now
         → IsOpenedTo (C.wording reporter.now) name.entry.now kept.now place said.old.items
-        counts.tally counts.strangers → IfOk result (λ more. IsOpenedTo (C.wording reporter.now)
-        name.entry.now kept.now (place + 1) said.new.items more.tally more.strangers) }
+        counts.old.tally counts.old.strangers → OnOk result (IsOpenedTo (C.wording reporter.now)
+        name.entry.now kept.now (place + 1) said.new.items counts.new.tally counts.new.strangers) }
     ensures known { place < length kept.now → length known.old.items ≡ place
         → AreKnown (C.wording reporter.now) kept.now known.old.items
         → OnOk result (AreKnown (C.wording reporter.now) kept.now known.new.items
@@ -44,17 +44,15 @@ fn open_block<'n, C: ChangeReporter>(
     ensures failed { IfErr result (IsListingFailure name.entry.now) }
 {
     let Some(block) = kept.block(place) else {
-        return Ok(counts);
+        return Ok(());
     };
     let text = block.text.as_slice();
     let repeated = kept.repeats(place, text);
     let found = say_block(alloc, name, reporter, block.line, text, repeated, said)?;
     known.push(known_by(found))?;
-    match counts.with(block.line, text, found.fault, found.stranger) {
-        Some(more) => Ok(more),
-        // No listing has so many blocks or lines.
-        None => Err(Failure::Unread(name)),
-    }
+    let sighting = sighting_of(reporter, &counts.strangers, found, text);
+    counts.add(name, block.line, text, found.fault, sighting)?;
+    Ok(())
 }
 
 /// The lines about the listing before, which has this name.
@@ -75,8 +73,15 @@ pub(super) fn opening_of<'n, C: ChangeReporter>(
     let mut known = Vec::with_capacity(alloc, kept.len())?;
     let mut counts = Counts::new();
     for place in 0..kept.len() {
-        counts = open_block(
-            alloc, name, reporter, kept, place, counts, &mut said, &mut known,
+        open_block(
+            alloc,
+            name,
+            reporter,
+            kept,
+            place,
+            &mut counts,
+            &mut said,
+            &mut known,
         )?;
     }
     counts.push_last(name, &mut said)?;

@@ -7,7 +7,7 @@ ghost use Rattle.acl_reports.specs.Reporting.{IsListingFailure};
 ghost use Rattle.acl_listing_changes.specs.ChangeSteps.{Appended, Here, IsLast, IsStep};
 ghost use Rattle.acl_listing_changes.specs.ChangeSteps.{ReportsReported, seen_on};
 
-use super::reporter::ChangeReporter;
+use super::reporter::{ChangeReporter, sighting_of};
 use super::seen::Seen;
 use super::sides::Sides;
 use acl_cli::{Ending, Failure};
@@ -117,7 +117,8 @@ impl<A: Read + Drop> Progress<A> {
         let text = self.blocks.text();
         let place = sides.before.place_of(text);
         let found = sides.report_block(alloc, &self.seen, place, line, text, out, beside)?;
-        self.seen.add(alloc, sides.name, place, line, text, found)
+        let sighting = sighting_of(sides.reporter, self.seen.strangers(), found, text);
+        self.seen.add(alloc, sides.name, place, line, text, found.fault, sighting)
     }
 
     /// Reports on the next block after, or on the end of the listing.

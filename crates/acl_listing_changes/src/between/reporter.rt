@@ -1,12 +1,13 @@
 //! Reporting changes between two listings.
-ghost use Rattle.std.specs.Prelude.{◌≡◌, ◌++◌, IfOk, OnOk, is_none};
+ghost use Rattle.std.specs.Prelude.{◌≡◌, ◌++◌, IfOk, OnOk, is_none, is_some, true};
 ghost use Rattle.acl_listings.specs.FaultyLine.{IsFaultyAt, line_at};
+ghost use Rattle.acl_reports.specs.Strangers.{IsSighting};
 ghost use Rattle.acl_listing_changes.specs.ChangeSteps.{Appended, IsKnown};
 ghost use Rattle.acl_listing_changes.specs.Changes.{ReportsIf, ReportsOld, Wording};
 
 use super::known::Known;
 use acl_listings::BlockFault;
-use acl_reports::Stranger;
+use acl_reports::{Sighting, Stranger, Strangers};
 use std::alloc::{AllocError, Global};
 
 /// What was found in a block.
@@ -14,8 +15,8 @@ use std::alloc::{AllocError, Global};
 pub(crate) struct Found {
     /// Its fault, if it has one.
     pub fault: Option<BlockFault>,
-    /// The first id that it names and no account has, if there is one, and that is looked for.
-    pub stranger: Option<Stranger>,
+    /// Whether it names an id that no account has, if that is looked for.
+    pub strange: bool,
 }
 
 /// Reports on the blocks of two listings.
@@ -30,8 +31,13 @@ pub(crate) trait ChangeReporter {
     /// What is found in a block with this text by itself. Fails only if memory runs out.
     fn find(&self, alloc: Global, text: &[u8]) -> Result<Found, AllocError>
         ensures fault { IfOk result (λ found. found.fault ≡ (wording self.now).fault text.now) }
-        ensures stranger { IfOk result (λ found.
-            found.stranger ≡ (wording self.now).stranger text.now) };
+        ensures strange { IfOk result (λ found.
+            found.strange ≡ is_some ((wording self.now).stranger text.now)) };
+
+    /// The first such id that the block with this text names, in which one was found.
+    fn stranger(&self, text: &[u8]) -> Option<Stranger>
+        ensures { is_some ((wording self.now).stranger text.now) ≡ true
+            → result ≡ (wording self.now).stranger text.now };
 
     /// The line of the block that is at fault, and how many lines are before it.
     fn faulty_line<'a>(&self, text: &'a [u8], fault: BlockFault) -> (usize, &'a [u8])
@@ -48,8 +54,8 @@ pub(crate) trait ChangeReporter {
         beside: &mut Vec<u8>,
     ) -> Result<Found, AllocError>
         ensures fault { IfOk result (λ found. found.fault ≡ (wording self.now).fault text.now) }
-        ensures stranger { IfOk result (λ found.
-            found.stranger ≡ (wording self.now).stranger text.now) }
+        ensures strange { IfOk result (λ found.
+            found.strange ≡ is_some ((wording self.now).stranger text.now)) }
         ensures reported { IfOk result (λ found. Appended
             (ReportsIf (is_none found.fault) ((wording self.now).IsNew text.now)) out.old.items
             out.new.items beside.old.items beside.new.items) };
@@ -67,8 +73,8 @@ pub(crate) trait ChangeReporter {
     ) -> Result<Found, AllocError>
         requires { IsKnown (wording self.now) old.now known }
         ensures fault { IfOk result (λ found. found.fault ≡ (wording self.now).fault text.now) }
-        ensures stranger { IfOk result (λ found.
-            found.stranger ≡ (wording self.now).stranger text.now) }
+        ensures strange { IfOk result (λ found.
+            found.strange ≡ is_some ((wording self.now).stranger text.now)) }
         ensures reported { IfOk result (λ found. Appended
             (ReportsIf (is_none found.fault) (ReportsOld
             (wording self.now) old.now text.now)) out.old.items
@@ -96,4 +102,27 @@ pub(crate) trait ChangeReporter {
     ) -> Result<(), AllocError>
         ensures { OnOk result (beside.new.items
             ≡ beside.old.items ++ (wording self.now).apart first.now second.now) };
+}
+
+/// What the block with this text is counted as, in which this was found. Its lines are read only if
+/// it is the first that names an id without an account.
+pub(super) fn sighting_of<C: ChangeReporter>(
+    reporter: &C,
+    strangers: &Strangers,
+    found: Found,
+    text: &[u8],
+) -> Sighting
+    ensures { found.strange ≡ is_some ((C.wording reporter.now).stranger text.now)
+        → IsSighting strangers.now ((C.wording reporter.now).stranger text.now) result }
+{
+    if !found.strange {
+        return Sighting::Nobody;
+    }
+    if strangers.first.is_some() {
+        return Sighting::Another;
+    }
+    match reporter.stranger(text) {
+        Some(stranger) => Sighting::First(stranger),
+        None => Sighting::Nobody,
+    }
 }

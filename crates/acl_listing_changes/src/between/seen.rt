@@ -1,15 +1,16 @@
 //! The part of the listing after that was seen.
-ghost use Rattle.std.specs.Prelude.{◌≡◌, IfErr, IfOk, OnOk, option_map};
+ghost use Rattle.std.specs.Prelude.{◌≡◌, IfErr, IfOk, OnOk, Option, option_map};
 ghost use Rattle.acl_listings.specs.Block.{path_of};
 ghost use Rattle.acl_reports.specs.Paths.{or_first};
 ghost use Rattle.acl_reports.specs.Reporting.{IsListingFailure};
+ghost use Rattle.acl_reports.specs.Strangers.{IsSighting};
+ghost use Rattle.acl_reports.specs.declared.stranger.Stranger.{Stranger};
 ghost use Rattle.acl_listing_changes.specs.ChangeSteps.{is_marked, nothing_seen, with_seen};
 
 use super::marks::{is_marked, mark};
-use super::reporter::Found;
 use acl_cli::Failure;
-use acl_listings::path_of;
-use acl_reports::Counts;
+use acl_listings::{BlockFault, path_of};
+use acl_reports::{Counts, Sighting, Strangers};
 use std::alloc::{AllocError, Global};
 use std::marker::Model;
 
@@ -79,6 +80,13 @@ impl Seen {
         self.counts
     }
 
+    /// How many of the blocks that were seen name ids without an account, and the first of these.
+    pub fn strangers(&self) -> &Strangers
+        ensures { result.now ≡ self.now.strangers }
+    {
+        &self.counts.strangers
+    }
+
     /// The first path that was seen.
     pub fn first(&self) -> Option<&[u8]>
         ensures { option_map (λ path. path.now) result ≡ self.now.first }
@@ -107,8 +115,9 @@ impl Seen {
         Ok(())
     }
 
-    /// Adds a block with this text, whose first line has this number, and in which this was found.
-    /// `place` is that of the block before with its path, and `name` the listing's.
+    /// Adds a block with this text, whose first line has this number, with its fault, if it has
+    /// one, and as this of those that name ids without an account. `place` is that of the block
+    /// before with its path, and `name` the listing's.
     pub fn add<'n>(
         &mut self,
         alloc: Global,
@@ -116,19 +125,17 @@ impl Seen {
         place: Option<usize>,
         line: u64,
         text: &[u8],
-        found: Found,
+        fault: Option<BlockFault>,
+        sighting: Sighting,
     ) -> Result<(), Failure<'n>>
-        ensures seen { OnOk result (self.new ≡ with_seen self.old place
-            (record { line = line; text = text.now }) found.fault found.stranger) }
+        ensures seen { (stranger : Option Stranger)
+            → IsSighting self.old.strangers stranger sighting
+            → OnOk result (self.new ≡ with_seen self.old place
+            (record { line = line; text = text.now }) fault stranger) }
         ensures failed { IfErr result (IsListingFailure name.entry.now) }
     {
         self.keep_first(alloc, text)?;
-        let counted = self.counts.with(line, text, found.fault, found.stranger);
-        let Some(counts) = counted else {
-            // No listing has so many blocks or lines.
-            return Err(Failure::Unread(name));
-        };
-        self.counts = counts;
+        self.counts.add(name, line, text, fault, sighting)?;
         mark(self.met.as_mut_slice(), place);
         self.known = self.known || place.is_some();
         Ok(())

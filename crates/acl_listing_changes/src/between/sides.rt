@@ -1,5 +1,5 @@
 //! Two listings, the one before in memory.
-ghost use Rattle.std.specs.Prelude.{◌≡◌, ◌++◌, IfErr, IfOk, OnOk, is_none};
+ghost use Rattle.std.specs.Prelude.{◌≡◌, ◌++◌, IfErr, IfOk, OnOk, is_none, is_some};
 ghost use Rattle.acl_reports.specs.Listed.{last_lines};
 ghost use Rattle.acl_reports.specs.Paths.{block_for, first_path};
 ghost use Rattle.acl_reports.specs.Reporting.{IsListingFailure};
@@ -43,8 +43,8 @@ impl<'n, 't, C: ChangeReporter> Sides<'n, 't, C> {
     ) -> Result<Found, AllocError>
         ensures fault { IfOk result (λ found.
             found.fault ≡ (C.wording self.now.reporter.now).fault text.now) }
-        ensures stranger { IfOk result (λ found.
-            found.stranger ≡ (C.wording self.now.reporter.now).stranger text.now) }
+        ensures strange { IfOk result (λ found.
+            found.strange ≡ is_some ((C.wording self.now.reporter.now).stranger text.now)) }
         ensures reported { place ≡ place_of self.now.before.now text.now → IfOk result (λ found.
             Appended (ReportsIf (is_none found.fault) (ReportsSince
             (C.wording self.now.reporter.now) (block_for self.now.before.now text.now) text.now))
@@ -74,8 +74,8 @@ impl<'n, 't, C: ChangeReporter> Sides<'n, 't, C> {
     ) -> Result<Found, Failure<'n>>
         ensures fault { IfOk result (λ found.
             found.fault ≡ (C.wording self.now.reporter.now).fault text.now) }
-        ensures stranger { IfOk result (λ found.
-            found.stranger ≡ (C.wording self.now.reporter.now).stranger text.now) }
+        ensures strange { IfOk result (λ found.
+            found.strange ≡ is_some ((C.wording self.now.reporter.now).stranger text.now)) }
         ensures reported { place ≡ place_of self.now.before.now text.now → IfOk result (λ found.
             Appended (ReportsNextBy (C.wording self.now.reporter.now) self.now.name.now
             (block_for self.now.before.now text.now) (record { line = line; text = text.now })
@@ -83,17 +83,17 @@ impl<'n, 't, C: ChangeReporter> Sides<'n, 't, C> {
         ensures failed { IfErr result (IsListingFailure self.now.name.now) }
     {
         let found = self.push_since(alloc, place, text, out, beside)?;
-        let stranger = found.stranger;
+        let strange = found.strange;
         let Some(fault) = found.fault else {
             return Ok(Found {
                 fault: None,
-                stranger,
+                strange,
             });
         };
         push_fault(self.name, self.reporter, line, text, fault, beside)?;
         Ok(Found {
             fault: Some(fault),
-            stranger,
+            strange,
         })
     }
 
@@ -112,8 +112,8 @@ impl<'n, 't, C: ChangeReporter> Sides<'n, 't, C> {
         ensures fault { place ≡ place_of self.now.before.now text.now → IfOk result (λ found.
             found.fault ≡ fault_here (C.wording self.now.reporter.now) self.now.before.now
             seen.now.met text.now) }
-        ensures stranger { IfOk result (λ found.
-            found.stranger ≡ (C.wording self.now.reporter.now).stranger text.now) }
+        ensures strange { IfOk result (λ found.
+            found.strange ≡ is_some ((C.wording self.now.reporter.now).stranger text.now)) }
         ensures reported { place ≡ place_of self.now.before.now text.now → IfOk result (λ _.
             Appended (ReportsReported (C.wording self.now.reporter.now) self.now.name.now
             self.now.before.now (Here seen.now (record { line = line; text = text.now })))

@@ -1,24 +1,20 @@
 //! What `impact` prints for blocks.
-ghost use Rattle.std.specs.Prelude.{◌≡◌, ◌++◌, IfSome, None, Ok, OnOk};
+ghost use Rattle.std.specs.Prelude.{◌≡◌, ◌++◌, OnOk};
 ghost use Rattle.acl_listings.specs.Block.{file_by};
 ghost use Rattle.acl_listings.specs.Views.{view_file};
-ghost use Rattle.acl_people.specs.Host.{names_of_host};
-ghost use Rattle.acl_reports.specs.Strangers.{stranger_in};
-ghost use Rattle.acl_listing_changes.specs.ChangeSteps.{IsKnown};
 ghost use Rattle.acl_listing_changes.specs.Concerns.{concern_of};
 ghost use Rattle.acl_listing_changes.specs.ImpactSteps.{ReportsRead, asking_by};
-ghost use Rattle.acl_listing_changes.specs.Impacting.{Reports, ReportsChange, impacting};
-ghost use Rattle.acl_listing_changes.specs.Impacting.{reported_of};
+ghost use Rattle.acl_listing_changes.specs.Impacting.{Reports, ReportsChange, reported_of};
 
 use super::changed::{changed_between, push_changed};
 use super::concerned::Concerned;
-use crate::between::{ChangeReporter, Found, Known};
+use crate::between::{ChangeReporter, Found, Known, found_by};
 use crate::impact_lines::push_apart;
 use acl_access::{PrintedPath, Rules};
 use acl_bridge::FileAcl;
-use acl_listings::{BlockFault, File, FileFault, faulty_line, lines_behind, read_file};
+use acl_listings::{BlockFault, File, FileFault, faulty_line, read_file};
 use acl_people::{Host, People};
-use acl_reports::{Stranger, file_stranger, owners_and_list, stranger_behind};
+use acl_reports::{Stranger, block_stranger, names_stranger, owners_and_list};
 use std::alloc::{AllocError, Global};
 
 /// Reports who gains or loses access by changes.
@@ -122,32 +118,6 @@ impl<'t> ImpactReporter<'t> {
     }
 }
 
-impl<'t> ImpactReporter<'t> {
-    /// The first id without an account that a block with this text names, which reads as this file.
-    fn stranger_in(&self, file: &File<'_>, text: &[u8]) -> Option<Stranger>
-        requires { file_by (names_of_host self.now.host.now) text.now ≡ Ok (view_file file.now) }
-        ensures { result ≡ stranger_in self.now.host.now text.now }
-    {
-        file_stranger(self.host, file, lines_behind(text))
-    }
-
-    /// The same by what is known of a block with this text, which isn't read again. `None` if it
-    /// may have a fault.
-    fn stranger_known(&self, known: Known, text: &[u8]) -> Option<Option<Stranger>>
-        requires { IsKnown (impacting (asking_by self.now)) text.now known }
-        ensures fault { IfSome result (λ stranger.
-            (impacting (asking_by self.now)).fault text.now ≡ None) }
-        ensures stranger { IfSome result (λ stranger.
-            stranger ≡ stranger_in self.now.host.now text.now) }
-    {
-        match known {
-            Known::Nothing => None,
-            Known::Plain => Some(None),
-            Known::Strange => Some(stranger_behind(self.host, lines_behind(text))),
-        }
-    }
-}
-
 impl<'t> ChangeReporter for ImpactReporter<'t> {
     ghost use Rattle.acl_listing_changes.specs.ImpactSteps.{asking_by};
     ghost use Rattle.acl_listing_changes.specs.Impacting.{impacting};
@@ -162,14 +132,18 @@ impl<'t> ChangeReporter for ImpactReporter<'t> {
         match read_file(alloc, text, self.host) {
             Ok(file) => Ok(Found {
                 fault: None,
-                stranger: self.stranger_in(&file, text),
+                strange: names_stranger(self.host, &file),
             }),
             Err(FileFault::Block(fault)) => Ok(Found {
                 fault: Some(fault),
-                stranger: None,
+                strange: false,
             }),
             Err(FileFault::Memory) => Err(AllocError),
         }
+    }
+
+    fn stranger(&self, text: &[u8]) -> Option<Stranger> {
+        block_stranger(self.host, text)
     }
 
     fn faulty_line<'a>(&self, text: &'a [u8], fault: BlockFault) -> (usize, &'a [u8]) {
@@ -185,16 +159,16 @@ impl<'t> ChangeReporter for ImpactReporter<'t> {
     ) -> Result<Found, AllocError> {
         match read_file(alloc, text, self.host) {
             Ok(file) => {
-                let stranger = self.stranger_in(&file, text);
+                let strange = names_stranger(self.host, &file);
                 self.push_file(alloc, false, file, out)?;
                 Ok(Found {
                     fault: None,
-                    stranger,
+                    strange,
                 })
             }
             Err(FileFault::Block(fault)) => Ok(Found {
                 fault: Some(fault),
-                stranger: None,
+                strange: false,
             }),
             Err(FileFault::Memory) => Err(AllocError),
         }
@@ -211,25 +185,22 @@ impl<'t> ChangeReporter for ImpactReporter<'t> {
     ) -> Result<Found, AllocError> {
         // An unchanged block isn't read again.
         if old == text {
-            if let Some(stranger) = self.stranger_known(known, text) {
-                return Ok(Found {
-                    fault: None,
-                    stranger,
-                });
+            if let Some(found) = found_by(known) {
+                return Ok(found);
             }
         }
         match read_file(alloc, text, self.host) {
             Ok(after) => {
-                let stranger = self.stranger_in(&after, text);
+                let strange = names_stranger(self.host, &after);
                 self.push_old(alloc, old, after, out)?;
                 Ok(Found {
                     fault: None,
-                    stranger,
+                    strange,
                 })
             }
             Err(FileFault::Block(fault)) => Ok(Found {
                 fault: Some(fault),
-                stranger: None,
+                strange: false,
             }),
             Err(FileFault::Memory) => Err(AllocError),
         }

@@ -5,6 +5,7 @@ ghost use Rattle.acl_listing_changes.specs.Restoring.{path_line, restore_fault, 
 use super::no_names::NoNames;
 use crate::between::{ChangeReporter, Found, Known};
 use acl_listings::{BlockFault, MAX_BLOCK, faulty_line, path_of};
+use acl_reports::Stranger;
 use std::alloc::{AllocError, Global};
 
 /// Prints the blocks before that the listing after has otherwise.
@@ -60,8 +61,12 @@ impl ChangeReporter for RestoreReporter {
     fn find(&self, _alloc: Global, text: &[u8]) -> Result<Found, AllocError> {
         Ok(Found {
             fault: fault_of(text),
-            stranger: None,
+            strange: false,
         })
+    }
+
+    fn stranger(&self, _text: &[u8]) -> Option<Stranger> {
+        None
     }
 
     fn faulty_line<'a>(&self, text: &'a [u8], fault: BlockFault) -> (usize, &'a [u8]) {
@@ -78,7 +83,7 @@ impl ChangeReporter for RestoreReporter {
         let fault = fault_of(text);
         let found = Found {
             fault,
-            stranger: None,
+            strange: false,
         };
         if fault.is_some() {
             return Ok(found);
@@ -99,7 +104,7 @@ impl ChangeReporter for RestoreReporter {
         let fault = fault_of(text);
         let found = Found {
             fault,
-            stranger: None,
+            strange: false,
         };
         if fault.is_some() {
             return Ok(found);

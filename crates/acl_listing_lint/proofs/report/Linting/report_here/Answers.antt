@@ -1,5 +1,5 @@
-use Rattle.std.proofs.Common.{◌≡◌, ◌∙◌, ◌+◌, List, ℕ, ap, refl, subst, sym}
-use Rattle.acl_reports.specs.Listed.{Item, fault_in, first_guess, is_fault, is_unread, with_item}
+use Rattle.std.proofs.Common.{◌≡◌, ◌∙◌, List, ℕ, ap, refl, subst, sym}
+use Rattle.acl_reports.specs.Listed.{Item, counted, with_item}
 use Rattle.acl_reports.specs.declared.tally.Tally.{Tally}
 use Rattle.acl_listing_lint.specs.Findings.{LintAsking}
 use Rattle.acl_listing_lint.specs.LintSteps.{IsBlockReported}
@@ -8,7 +8,6 @@ use Rattle.acl_listing_lint.proofs.report.Linting.report_here.Goals as goal
 pub returns-in-Some-clause-reported : goal.returns-in-Some-clause-reported
 returns-in-Some-clause-reported g c =
     let was : Tally = c.args.self.now.tally in
-    let now : Tally = c.in-Some.tally in
     let asking : LintAsking = record { name = c.args.self.now.name.now; host = c.args.self.now.host.now } in
     let block = c.args.self.now.blocks.block in
     let seen = c.args.self.now.seen in
@@ -19,11 +18,6 @@ returns-in-Some-clause-reported g c =
     c.args.out.now.items c.report_block.new.out.items c.args.beside.now.items c.report_block.new.beside.items) c.text-text.ensures first in
     let item : Item = record { block = block; part = here.part } in
     let (text, (said, is_said, beside), fault) = here.is_reported in
-    let faults = was.faults + is_fault (fault_in item.part) in
-    let unread = was.unread + is_unread (fault_in item.part) in
-    let counted : now ≡ with_item was item =
-    ap (λ blocks. record now { blocks = blocks }) c.in-Some.ensures.blocks
-    ∙ ap (λ faults. record now { blocks = was.blocks + 1; faults = faults }) (c.in-Some.ensures.faults ∙ ap (λ fault. was.faults + is_fault fault) (sym fault))
-    ∙ ap (λ unread. record now { blocks = was.blocks + 1; faults = faults; unread = unread }) (c.in-Some.ensures.unread ∙ ap (λ fault. was.unread + is_unread fault) (sym fault))
-    ∙ ap (λ guess. record now { blocks = was.blocks + 1; faults = faults; unread = unread; guess = guess }) (c.in-Some.ensures.guess ∙ ap (first_guess was.guess) c.text-text.ensures) in
-    record { part = here.part; part_is = here.part_is; seen_is = here.seen_is; done = record { text = text; said = said; is_said = is_said; beside_is = beside; tally_is = counted; strangers_is = refl } }
+    let counted_is : c.add.new.self ≡ with_item was item =
+    c.in-Some.ensures ∙ ap (λ text. counted was text c.in_ok-fault.fault) c.text-text.ensures ∙ ap (counted was block.text) (sym fault) in
+    record { part = here.part; part_is = here.part_is; seen_is = here.seen_is; done = record { text = text; said = said; is_said = is_said; beside_is = beside; tally_is = counted_is; strangers_is = refl } }

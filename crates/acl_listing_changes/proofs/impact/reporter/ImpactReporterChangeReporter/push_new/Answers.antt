@@ -14,8 +14,8 @@ returns-in_ok-push_file-in-Ok-clause-reported c =
     new_reported (asking_by c.args.self.now) c.args.text.now (view_file c.in-Ok.file) c.in-Ok.ensures.read c.args.out.now.items c.push_file.new.out.items c.args._beside.now.items
     c.in_ok-push_file-in-Ok.ensures
 
-pub returns-in-Err-Block-clause-stranger : goal.returns-in-Err-Block-clause-stranger
-returns-in-Err-Block-clause-stranger c =
+pub returns-in-Err-Block-clause-strange : goal.returns-in-Err-Block-clause-strange
+returns-in-Err-Block-clause-strange c =
     let host = c.args.self.now.host.now in
     let reading = file_by (names_of_host host) c.args.text.now in
     let refused : IsFaultOf reading (FaultOf c.in-Err-Block.fault) = subst (IsFaultOf reading) c.in-Err-Block.field-0-is c.in-Err-Block.ensures.refused in
