@@ -8,9 +8,8 @@ use Rattle.acl_listings.specs.Block.{FileValue, file_by, path_of}
 use Rattle.acl_listings.specs.Lines.{after_line}
 use Rattle.acl_listings.specs.declared.limits.TheConstants.{MAX_BLOCK}
 use Rattle.acl_listings.proofs.AlikeLemmas.{file_at, file_of-alike}
-use Rattle.acl_people.specs.Host.{Host, names_of_host}
-use Rattle.acl_reports.specs.Strangers.{file_stranger, if_read, stranger_in}
-use Rattle.acl_listing_queries.specs.WhoSteps.{AreRight, IsAnsweredAt, IsKept, kept_at, names_by, stranger_kept}
+use Rattle.acl_reports.proofs.SightedLemmas.{block_sighted}
+use Rattle.acl_listing_queries.specs.WhoSteps.{AreRight, IsAnsweredAt, IsKept, kept_at, names_by, strange_kept, stranger_by}
 use Rattle.acl_listing_queries.specs.declared.who.answers.Answers.{Answers}
 use Rattle.acl_listing_queries.specs.declared.who.answers.Kept.{Kept}
 use Rattle.acl_listing_queries.specs.declared.who.answers.Users.{Users}
@@ -57,18 +56,14 @@ same_lines answers place text lines path right lines_are short path_is holds =
       record { kept = kept; there = there; are = record { granted = own.granted; search = own.search } },
     )
 
--- ---- the first id without an account that a block names
+-- ---- whether a block names an id without an account
 
-pub read_stranger : (host : Host) (text : List ℕ) (file : FileValue) → file_by (names_of_host host) text ≡ Ok file → stranger_in host text ≡ file_stranger host file (after_line text)
-read_stranger host text file reads = ap (if_read (λ file. file_stranger host file (after_line text))) reads
-
-pub same_stranger : (answers : Answers) (place : ℕ) (text lines path : List ℕ) → AreRight answers → lines ≡ after_line text → length text ≤ MAX_BLOCK → path_of text ≡ Some path
+pub same_strange : (answers : Answers) (place : ℕ) (text lines path : List ℕ) → AreRight answers → lines ≡ after_line text → length text ≤ MAX_BLOCK → path_of text ≡ Some path
     → option_map_or (λ kept. bytes_eq kept.lines.items lines) (kept_at answers.kept.items place) false ≡ true
-    → stranger_kept (kept_at answers.kept.items place) ≡ stranger_in answers.users.host.now text
+    → strange_kept (kept_at answers.kept.items place) ≡ is_some (stranger_by answers.users text)
 unfolding same_lines
-same_stranger answers place text lines path right lines_are short path_is holds =
+same_strange answers place text lines path right lines_are short path_is holds =
     let (kept, there, same) = with_lines lines (kept_at answers.kept.items place) holds in
     let is : IsKept answers.users kept = subst (λ found. IfSome found (IsKept answers.users)) there (right.each place) in
-    let host = answers.users.host.now in
     let (file, reads, at) = same_lines answers place text lines path right lines_are short path_is holds in
-    ap stranger_kept there ∙ is.stranger ∙ ap (file_stranger host is.file) (same ∙ lines_are) ∙ sym (read_stranger host text file reads)
+    ap strange_kept there ∙ is.strange ∙ block_sighted answers.users.host.now text file reads

@@ -18,3 +18,4 @@ pub mod WhyPartLemmas
 pub mod DeletionTextLemmas
 pub mod DeletionLawLemmas
 pub mod OutputLemmas
+pub mod PathLawLemmas

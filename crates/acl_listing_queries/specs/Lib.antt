@@ -18,5 +18,6 @@ pub mod WhyText
 pub mod DeletionLaws
 pub mod WhyLine
 pub mod PathWord
+pub mod PathLaws
 pub mod WhyMeaning
 pub mod WhySteps

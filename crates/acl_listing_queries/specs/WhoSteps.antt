@@ -3,7 +3,7 @@ use Rattle.std.specs.Prelude.{◌≡◌, ℕ, Bool, true, false, List, [], ◌�
 use Rattle.std.specs.Prelude.{Result, Ok, Err, IfSome, get_or, is_none, length, map, option_map}
 use Rattle.std.specs.Prelude.{⊤, nat_lt, reverse, slice_get, if◌then◌else◌}
 use Rattle.std.specs.List.{enumerate_from, flat_map, fold, list_all, list_any}
-use Rattle.std.specs.Option.{option_and_then}
+use Rattle.std.specs.Option.{option_map_or}
 use Rattle.acl_names.specs.Names.{Names}
 use Rattle.acl_names.specs.Requester.{Identity}
 use Rattle.acl_access.specs.Letters.{effective, granted_mask}
@@ -22,7 +22,7 @@ use Rattle.acl_posix.specs.declared.perms.Perms.{Perms}
 use Rattle.acl_bridge.specs.Files.{File, may}
 use Rattle.acl_people.specs.Asked.{names_of_people, persons_of}
 use Rattle.acl_reports.specs.Files.{file_of, files_of}
-use Rattle.acl_reports.specs.Strangers.{file_stranger, stranger_in}
+use Rattle.acl_reports.specs.Strangers.{names_stranger, stranger_in}
 use Rattle.acl_reports.specs.declared.stranger.Stranger.{Stranger}
 use Rattle.acl_people.specs.Host.{names_of_host}
 use Rattle.acl_listing_queries.specs.Readings.{Reading, reading_of}
@@ -162,14 +162,15 @@ pub record IsKept (users : Users) (kept : Kept) : Type 0 where
   pub file : FileValue
   pub reads : file_by (names_by users) text ≡ Ok file
   pub answers : AreAnswersOf users file kept
-  pub stranger : kept.stranger ≡ file_stranger users.host.now file kept.lines.items
+  pub strange : kept.strange ≡ names_stranger users.host.now file
 
 -- what is kept at a place, if anything is
 abbrev pub kept_at : List (Option Kept) → ℕ → Option Kept
 kept_at kept place = get_or kept place None
 
-abbrev pub stranger_kept : Option Kept → Option Stranger
-stranger_kept kept = option_and_then (λ kept. kept.stranger) kept
+-- whether the file names an id without an account
+abbrev pub strange_kept : Option Kept → Bool
+strange_kept kept = option_map_or (λ kept. kept.strange) kept false
 
 pub record AreRight (answers : Answers) : Type 0 where
   pub places : length answers.kept.items ≡ PLACES

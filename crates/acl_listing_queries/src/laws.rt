@@ -1,8 +1,9 @@
-//! The laws of the way to a file, of the entries that decide and of what is printed, over the
-//! definitions alone, and how much is kept.
+//! The laws of the way to a file, of the entries that decide, of what is printed and of PATH, over
+//! the definitions alone, and how much is kept.
 ghost use Rattle.std.specs.Prelude.{◌≡◌};
 ghost use Rattle.acl_listing_queries.specs.DeletionLaws.{DeletionsAgree};
 ghost use Rattle.acl_listing_queries.specs.OutputLaws.{WhoAnswersPrint, WhoBeginsPrint};
+ghost use Rattle.acl_listing_queries.specs.PathLaws.{ListedPathsAreRead, PrintedPathsAreRead};
 ghost use Rattle.acl_listing_queries.specs.ViaLaws.{EntriesGrant, NumbersAllow};
 ghost use Rattle.acl_listing_queries.specs.WayLaws.{WaysAreAllAbove, WaysHaveAllAbove};
 ghost use Rattle.acl_listing_queries.specs.WayLaws.{WaysHaveAllBefore};
@@ -39,6 +40,13 @@ pub fn deletion_laws()
 pub fn output_laws()
     ensures answered { WhoAnswersPrint }
     ensures begun { WhoBeginsPrint }
+{}
+
+/// A path of a listing, as getfacl writes it, is itself as PATH of `why`, and so is what an answer
+/// prints for it. There is nothing to run here: a proof cites the contract.
+pub fn path_laws()
+    ensures listed { ListedPathsAreRead }
+    ensures printed { PrintedPathsAreRead }
 {}
 
 /// How many answers for files with different lines are cached, as a number. There is nothing to run

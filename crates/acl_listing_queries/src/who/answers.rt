@@ -1,22 +1,23 @@
 //! What is answered of the files of a listing, kept for files whose blocks have the same lines.
 ghost use Rattle.std.specs.Prelude.{◌≡◌, ◌<◌, Bool, IfErr, IfOk, List, bytes_eq, false, Ok};
-ghost use Rattle.std.specs.Prelude.{option_map};
+ghost use Rattle.std.specs.Prelude.{is_some, option_map, true};
 ghost use Rattle.std.specs.Option.{option_map_or};
 ghost use Rattle.acl_access.specs.Paths.{printed_path};
 ghost use Rattle.acl_bridge.specs.Files.{File, view_acl};
-ghost use Rattle.acl_listings.specs.Block.{FileValue, file_by};
+ghost use Rattle.acl_listings.specs.Block.{FileValue, file_by, path_of};
 ghost use Rattle.acl_listings.specs.Faults.{IsFaultOf};
 ghost use Rattle.acl_listings.specs.Lines.{after_line};
 ghost use Rattle.acl_reports.specs.Files.{file_of};
 ghost use Rattle.acl_reports.specs.Reporting.{IsPart, UnlessMemory};
-ghost use Rattle.acl_reports.specs.Strangers.{file_stranger, stranger_in};
+ghost use Rattle.acl_reports.specs.Strangers.{names_stranger};
 ghost use Rattle.acl_listing_queries.specs.ViaSteps.{asked_of};
 ghost use Rattle.acl_listing_queries.specs.WhoPart.{part_of};
 ghost use Rattle.acl_listing_queries.specs.WhoSteps.{AreAnswersOf, AreRight, IsAnswered};
 ghost use Rattle.acl_listing_queries.specs.WhoSteps.{IsAnsweredAt, IsGranted, IsInside, IsSearch};
 ghost use Rattle.acl_listing_queries.specs.WhoSteps.{asking_of};
 ghost use Rattle.acl_listing_queries.specs.WhoSteps.{kept_at, names_by, question_by};
-ghost use Rattle.acl_listing_queries.specs.WhoSteps.{standings_kept, stranger_kept, whos_of};
+ghost use Rattle.acl_listing_queries.specs.WhoSteps.{standings_kept, strange_kept, stranger_by};
+ghost use Rattle.acl_listing_queries.specs.WhoSteps.{whos_of};
 
 use super::asked::{Asked, What};
 use super::decided::{Decided, decided_for_each, push_decided_lines};
@@ -29,12 +30,12 @@ use acl_access::{
     standings_of_each, which_may,
 };
 use acl_bridge::FileAcl;
-use acl_listings::{FileFault, MAX_BLOCK, path_and_lines, path_of, read_file};
+use acl_listings::{FileFault, MAX_BLOCK, read_file};
 use acl_names::Requester;
 use acl_nfs4::Mask;
 use acl_people::{Host, People};
 use acl_posix::Perms;
-use acl_reports::{Stranger, file_stranger, owners_and_list};
+use acl_reports::{Stranger, block_stranger, names_stranger, owners_and_list};
 use std::alloc::{AllocError, Global};
 
 /// What a file grants the users.
@@ -62,8 +63,8 @@ pub(super) struct Kept {
     granted: Granted,
     /// Of each user whether to search it is granted, if that is asked.
     search: Vec<bool>,
-    /// The first id without an account that its block names.
-    stranger: Option<Stranger>,
+    /// Whether it names an id without an account.
+    strange: bool,
 }
 
 impl Kept {
@@ -169,11 +170,11 @@ impl<'t> Users<'t> {
         ensures lines { IfOk result (λ kept. kept.lines.items ≡ after_line text.now) }
         ensures answers { IfOk result (λ kept. (file : FileValue)
             × (file_by (names_by self.now) text.now ≡ Ok file) × AreAnswersOf self.now file kept
-            × (kept.stranger ≡ file_stranger self.now.host.now file (after_line text.now))) }
+            × (kept.strange ≡ names_stranger self.now.host.now file)) }
         ensures refused { IfErr result (IsFaultOf (file_by (names_by self.now) text.now)) }
     {
         let file = read_file(alloc, text, self.host)?;
-        let stranger = file_stranger(self.host, &file, lines);
+        let strange = names_stranger(self.host, &file);
         let sticky = file.flags.sticky;
         let (owners, list) = owners_and_list(alloc, self.rules, file)?;
         let acl = FileAcl {
@@ -187,7 +188,7 @@ impl<'t> Users<'t> {
             lines,
             granted,
             search,
-            stranger,
+            strange,
         })
     }
 
@@ -254,8 +255,8 @@ pub(super) struct Answers<'t> {
     users: Users<'t>,
     kept: Vec<Option<Kept>>,
     recent: RecentNumbers,
-    /// The first id without an account that the block names which was looked up last.
-    found: Option<Stranger>,
+    /// Whether the block that was looked up last names an id without an account.
+    found: bool,
 }
 
 impl<'t> Answers<'t> {
@@ -272,7 +273,7 @@ impl<'t> Answers<'t> {
         Ok(Answers {
             users,
             kept,
-            found: None,
+            found: false,
             recent,
         })
     }
@@ -284,20 +285,28 @@ impl<'t> Answers<'t> {
         kept_at(self.kept.as_slice(), place)
     }
 
-    /// The first id without an account that the block names which was looked up last.
-    pub fn found(&self) -> Option<Stranger>
+    /// Whether the block that was looked up last names an id without an account.
+    pub fn found(&self) -> bool
         ensures { result ≡ self.now.found }
     {
         self.found
     }
 
-    /// The first id without an account that the block names whose answers are kept at the place.
-    fn stranger_at(&self, place: usize) -> Option<Stranger>
-        ensures { result ≡ stranger_kept (kept_at self.now.kept.items place) }
+    /// The first such id that the block with this text names, which names one.
+    pub fn stranger(&self, text: &[u8]) -> Option<Stranger>
+        ensures { is_some (stranger_by self.now.users text.now) ≡ true
+            → result ≡ stranger_by self.now.users text.now }
+    {
+        block_stranger(self.users.host, text)
+    }
+
+    /// Whether the block whose answers are kept at the place names one.
+    fn strange_at(&self, place: usize) -> bool
+        ensures { result ≡ strange_kept (kept_at self.now.kept.items place) }
     {
         match self.at(place) {
-            Some(kept) => kept.stranger,
-            None => None,
+            Some(kept) => kept.strange,
+            None => false,
         }
     }
 
@@ -312,8 +321,17 @@ impl<'t> Answers<'t> {
         }
     }
 
-    /// The place where the answers for this block's file are kept.
-    pub fn find(&mut self, alloc: Global, text: &[u8]) -> Result<usize, FileFault>
+    /// The place where the answers for the file of the block with this text are kept. These are its
+    /// path and the lines behind the first.
+    pub fn find(
+        &mut self,
+        alloc: Global,
+        path: Option<&[u8]>,
+        text: &[u8],
+        lines: &[u8],
+    ) -> Result<usize, FileFault>
+        requires path { option_map (λ path. path.now) path ≡ path_of text.now }
+        requires lines { lines.now ≡ after_line text.now }
         ensures users { self.new.users ≡ self.old.users }
         ensures right { AreRight self.old → AreRight self.new }
         ensures found { AreRight self.old → IfOk result (λ place. (file : FileValue)
@@ -322,49 +340,47 @@ impl<'t> Answers<'t> {
         ensures refused { IfErr result
             (IsFaultOf (file_by (names_by self.old.users) text.now)) }
         ensures stranger { AreRight self.old → UnlessMemory result
-            (self.new.found ≡ stranger_in self.old.users.host.now text.now) }
+            (self.new.found ≡ is_some (stranger_by self.old.users text.now)) }
     {
-        let (path, lines) = path_and_lines(text);
         let place = place_for_text(lines);
         if text.len() <= MAX_BLOCK && path.is_some() && self.is_of(place, lines) {
-            self.found = self.stranger_at(place);
+            self.found = self.strange_at(place);
             return Ok(place);
         }
-        self.found = None;
+        self.found = false;
         let kept = self.users.answer(alloc, text, lines)?;
-        self.found = kept.stranger;
+        self.found = kept.strange;
         if place < self.kept.len() {
             self.kept[place] = Some(kept);
         }
         Ok(place)
     }
 
-    /// Appends what is reported for the file of the block, which lies there, and whose answers are
+    /// Appends what is reported for the file at the path, which lies there, and whose answers are
     /// kept at the place.
     pub fn push_at(
         &mut self,
         alloc: Global,
         place: usize,
         inside: Inside<'_>,
-        text: &[u8],
+        path: &[u8],
         out: &mut Vec<u8>,
     ) -> Result<(), FileFault>
         ensures same { self.new ≡ self.old }
         ensures reported { (file : FileValue) (sticky : Bool) (way : List File)
-            → file_by (names_by self.old.users) text.now ≡ Ok file
             → IsAnsweredAt self.old place file → IsInside self.old.users sticky way inside.entry
             → IsPart (part_of (asking_of self.old.users).persons (question_by self.old.users) sticky
-            way (printed_path file.path) (file_of self.old.users.rules file)) result out.old.items
+            way (printed_path path.now) (file_of self.old.users.rules file)) result out.old.items
             out.new.items }
     {
-        match (kept_at(self.kept.as_slice(), place), path_of(text)) {
-            (Some(kept), Some(path)) => {
+        match kept_at(self.kept.as_slice(), place) {
+            Some(kept) => {
                 let printed = PrintedPath::of(alloc, path)?;
                 let recent = &mut self.recent;
                 self.users
                     .push(alloc, place, kept, inside, printed.bytes(), recent, out)
             }
-            _ => Ok(()),
+            None => Ok(()),
         }
     }
 }

@@ -4,7 +4,7 @@ ghost use Rattle.acl_listing_queries.specs.WhoSteps.{AreRight, IsEveryone, IsLis
 
 use super::answers::Answers;
 use super::way::Inside;
-use acl_listings::FileFault;
+use acl_listings::{FileFault, path_and_lines};
 use acl_reports::{BlockReporter, Stranger};
 use std::alloc::Global;
 
@@ -40,15 +40,24 @@ impl<'t> BlockReporter for ListedReporter<'t> {
     ghost found = { λ reporter. reporter.answers.found };
 
     fn push(&mut self, alloc: Global, text: &[u8], out: &mut Vec<u8>) -> Result<(), FileFault> {
-        let place = self.answers.find(alloc, text)?;
+        let (path, lines) = path_and_lines(text);
+        let place = self.answers.find(alloc, path, text, lines)?;
+        let Some(path) = path else {
+            // What reads has a path.
+            return Ok(());
+        };
         let inside = Inside {
             reach: self.everyone.as_slice(),
             folder: None,
         };
-        self.answers.push_at(alloc, place, inside, text, out)
+        self.answers.push_at(alloc, place, inside, path, out)
     }
 
-    fn found(&self) -> Option<Stranger> {
+    fn names_stranger(&self) -> bool {
         self.answers.found()
+    }
+
+    fn stranger(&self, text: &[u8]) -> Option<Stranger> {
+        self.answers.stranger(text)
     }
 }

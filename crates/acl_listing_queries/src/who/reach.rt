@@ -1,8 +1,9 @@
 //! What `who` prints for a block, for the users who reach its file.
 ghost use Rattle.std.specs.Prelude.{◌≡◌, ◌++◌, ◌∷◌, [], Bool, false, true, IfOk, List, OnOk, ℕ};
-ghost use Rattle.std.specs.Prelude.{None, Ok, Some, if◌then◌else◌, option_map};
+ghost use Rattle.std.specs.Prelude.{None, Ok, Some, if◌then◌else◌, is_some, option_map};
 ghost use Rattle.std.specs.List.{fold, list_any};
 ghost use Rattle.acl_listings.specs.Block.{FileValue, file_by, path_of};
+ghost use Rattle.acl_listings.specs.Lines.{after_line};
 ghost use Rattle.acl_reports.specs.Reporting.{IsPart, UnlessMemory};
 ghost use Rattle.acl_listing_queries.specs.Readings.{Reading, reading_of};
 ghost use Rattle.acl_listing_queries.specs.Ways.{chain_to, is_sticky, way_of, way_on};
@@ -18,7 +19,7 @@ use super::answers::Answers;
 use super::way::{Folder, inside_of, leave, reach_of};
 use crate::beginning::Beginning;
 use acl_access::{Standing, both};
-use acl_listings::{BlockFault, FileFault, is_above, path_of};
+use acl_listings::{BlockFault, FileFault, is_above, path_and_lines};
 use acl_reports::{BlockReporter, Stranger};
 use std::alloc::{AllocError, Global};
 
@@ -140,18 +141,18 @@ impl<'t> ReachReporter<'t> {
         apart: bool,
         place: usize,
         path: &[u8],
-        text: &[u8],
         out: &mut Vec<u8>,
     ) -> Result<(), FileFault>
         ensures same { self.new ≡ self.old }
-        ensures reported { (way : List Reading) (begins_apart : Bool) (file : FileValue)
+        ensures reported { (text : List ℕ) (way : List Reading) (begins_apart : Bool)
+            (file : FileValue)
             → IsCome self.old way → (self.old.lost ≡ false → apart ≡ begins_apart)
-            → path_of text.now ≡ Some path.now
-            → file_by (names_by self.old.answers.users) text.now ≡ Ok file
+            → path_of text ≡ Some path.now
+            → file_by (names_by self.old.answers.users) text ≡ Ok file
             → IsAnsweredAt self.old.answers place file
             → IsPart (part_on (asking_of self.old.answers.users) (is_sticky way) file
             (if begins_apart
-            then chain_to way (reading_of (names_by self.old.answers.users) text.now) else None))
+            then chain_to way (reading_of (names_by self.old.answers.users) text) else None))
             result out.old.items out.new.items }
     {
         if self.lost {
@@ -161,7 +162,7 @@ impl<'t> ReachReporter<'t> {
             return Err(FileFault::Block(BlockFault::UnknownWay));
         }
         match inside_of(self.folders.as_slice(), self.everyone.as_slice(), path) {
-            Some(inside) => self.answers.push_at(alloc, place, inside, text, out),
+            Some(inside) => self.answers.push_at(alloc, place, inside, path, out),
             None => Err(FileFault::Block(BlockFault::UnknownWay)),
         }
     }
@@ -189,25 +190,25 @@ impl<'t> ReachReporter<'t> {
         alloc: Global,
         path: &[u8],
         text: &[u8],
+        lines: &[u8],
         out: &mut Vec<u8>,
     ) -> Result<(), FileFault>
+        requires path { path_of text.now ≡ Some path.now }
+        requires lines { lines.now ≡ after_line text.now }
         ensures users { self.new.answers.users ≡ self.old.answers.users }
         ensures stands { (earlier : List (List ℕ)) → IsOnWay self.old earlier
-            → path_of text.now ≡ Some path.now
             → UnlessMemory result (IsOnWay self.new (earlier ++ text.now ∷ [])) }
         ensures reported { (earlier : List (List ℕ)) → IsOnWay self.old earlier
-            → path_of text.now ≡ Some path.now
             → IsPart (who_part (asking_of self.old.answers.users) earlier text.now) result
             out.old.items out.new.items }
-        ensures found { (earlier : List (List ℕ)) → IsOnWay self.old earlier
-            → path_of text.now ≡ Some path.now → UnlessMemory result
-            (self.new.answers.found ≡ stranger_by self.old.answers.users text.now) }
+        ensures found { (earlier : List (List ℕ)) → IsOnWay self.old earlier → UnlessMemory result
+            (self.new.answers.found ≡ is_some (stranger_by self.old.answers.users text.now)) }
     {
         let apart = self.beginning.come_to(alloc, path)?;
         self.come_to(alloc, path)?;
-        match self.answers.find(alloc, text) {
+        match self.answers.find(alloc, Some(path), text, lines) {
             Ok(place) => {
-                let reported = self.push_here(alloc, apart, place, path, text, out);
+                let reported = self.push_here(alloc, apart, place, path, out);
                 self.stand_at(alloc, path, Some(place))?;
                 reported
             }
@@ -220,20 +221,20 @@ impl<'t> ReachReporter<'t> {
     }
 
     /// Reads a block without a path, after which no way is known.
-    fn push_lost(&mut self, alloc: Global, text: &[u8]) -> Result<(), FileFault>
+    fn push_lost(&mut self, alloc: Global, text: &[u8], lines: &[u8]) -> Result<(), FileFault>
+        requires path { path_of text.now ≡ None }
+        requires lines { lines.now ≡ after_line text.now }
         ensures users { self.new.answers.users ≡ self.old.answers.users }
         ensures stands { (earlier : List (List ℕ)) → IsOnWay self.old earlier
-            → path_of text.now ≡ None
             → UnlessMemory result (IsOnWay self.new (earlier ++ text.now ∷ [])) }
         ensures reported { (earlier : List (List ℕ)) → IsOnWay self.old earlier
-            → path_of text.now ≡ None
             → (old : List ℕ) → IsPart (who_part (asking_of self.old.answers.users) earlier text.now)
             result old old }
         ensures found { (earlier : List (List ℕ)) → IsOnWay self.old earlier → UnlessMemory result
-            (self.new.answers.found ≡ stranger_by self.old.answers.users text.now) }
+            (self.new.answers.found ≡ is_some (stranger_by self.old.answers.users text.now)) }
     {
         self.lost = true;
-        match self.answers.find(alloc, text) {
+        match self.answers.find(alloc, None, text, lines) {
             Ok(_) => Err(FileFault::Block(BlockFault::UnknownWay)),
             Err(fault) => Err(fault),
         }
@@ -253,13 +254,18 @@ impl<'t> BlockReporter for ReachReporter<'t> {
     ghost found = { λ reporter. reporter.answers.found };
 
     fn push(&mut self, alloc: Global, text: &[u8], out: &mut Vec<u8>) -> Result<(), FileFault> {
-        match path_of(text) {
-            Some(path) => self.push_at(alloc, path, text, out),
-            None => self.push_lost(alloc, text),
+        let (path, lines) = path_and_lines(text);
+        match path {
+            Some(path) => self.push_at(alloc, path, text, lines, out),
+            None => self.push_lost(alloc, text, lines),
         }
     }
 
-    fn found(&self) -> Option<Stranger> {
+    fn names_stranger(&self) -> bool {
         self.answers.found()
+    }
+
+    fn stranger(&self, text: &[u8]) -> Option<Stranger> {
+        self.answers.stranger(text)
     }
 }

@@ -1,9 +1,8 @@
 //! PATH of `why`, as the words have it and as a listing does.
 ghost use Rattle.std.specs.Prelude.{◌≡◌, ◌≢◌, ◌<◌, ◌++◌, [], IfOk, length};
-ghost use Rattle.acl_accounts.specs.Names.{is_pair};
 ghost use Rattle.acl_listing_queries.specs.PathWord.{as_listed, is_escaped};
 
-use acl_accounts::octal_front;
+use acl_accounts::{is_pair, octal_front};
 use std::alloc::{AllocError, Global};
 
 /// PATH as a listing has it: `\` and three octal digits are that byte, except for the bytes that
@@ -41,12 +40,6 @@ fn push_front<'t>(word: &'t [u8], path: &mut Vec<u8>) -> Result<&'t [u8], AllocE
             Ok(&word[1..])
         }
     }
-}
-
-fn is_pair(first: u8, second: u8) -> bool
-    ensures { result ≡ is_pair first second }
-{
-    first == b'\\' && second == b'\\'
 }
 
 fn is_escaped(byte: u8) -> bool

@@ -13,11 +13,11 @@ lost names text file reads none =
     cc
 
 pub returns-in-Ok-clause-stands : goal.returns-in-Ok-clause-stands
-returns-in-Ok-clause-stands c = λ earlier on none.
+returns-in-Ok-clause-stands c = λ earlier on.
     let found = c.in-Ok.ensures.found on.right in
-    absurd (lost (names_by c.args.self.now.answers.users) c.args.text.now found.0 found.1 none)
+    absurd (lost (names_by c.args.self.now.answers.users) c.args.text.now found.0 found.1 c.requires.path)
 
 pub returns-in-Ok-clause-reported : goal.returns-in-Ok-clause-reported
-returns-in-Ok-clause-reported c = λ earlier on none old.
+returns-in-Ok-clause-reported c = λ earlier on old.
     let found = c.in-Ok.ensures.found on.right in
-    absurd (lost (names_by c.args.self.now.answers.users) c.args.text.now found.0 found.1 none)
+    absurd (lost (names_by c.args.self.now.answers.users) c.args.text.now found.0 found.1 c.requires.path)
