@@ -27,6 +27,16 @@ def is_reached(status, lines):
     return status in (0, 1) and lines[-1].startswith(("only=", "logic="))
 
 
+def unread(lines):
+    """The first line of a check that refuses what a source or a definition says, before any proof, or None."""
+    return next((it for it in lines if re.match(r"(?:\./)?(?:src|specs)/\S+: error", it)), None)
+
+
+def why_unread(lines):
+    """What is said of an edit of which a check didn't come as far as the proofs."""
+    return f"BAD EDIT: it did not reach the prover: {(unread(lines) or lines[0])[:160]}"
+
+
 def is_named(own, line):
     """Whether a line of a check says that a function isn't proved: at its place, or at an answer of its proof."""
     if at := re.match(r"note: (src/\S+?):(\d+):\d+: (?:it is not proved|`search` found no proof)", line):
@@ -56,9 +66,8 @@ def is_all_proved(edit, lines):
 
 def verdict(is_proved, lines):
     """Whether a check of one edit alone refuses it, and why, by whether all is proved (None if it wasn't read) and by its lines."""
-    unread = next((it for it in lines if re.match(r"(?:\./)?(?:src|specs)/\S+: error", it)), None)
-    if is_proved is None or unread:
-        return False, f"BAD EDIT: it did not reach the prover: {(unread or lines[0])[:160]}"
+    if is_proved is None or unread(lines):
+        return False, why_unread(lines)
     if is_proved:
         return False, "NOT REFUSED"
     told = [it for it in lines if re.match(r"note: src/\S+:\d+:\d+: |(\./)?proofs/\S+: error: ", it)]

@@ -63,6 +63,13 @@ class Prover:
             print(f"{crate} is not proved without an edit: {text[-400:]}", flush=True)
         return status == 0
 
+    def compiles(self, crate, texts):
+        """Returns whether a crate with these texts in it compiles, of which nothing is proved, and the lines."""
+        with copy_of(crate, texts) as room:
+            status, text = self.clock.run([*self.words("check", crate), "--only", ""], room)
+        lines = text.rstrip("\n").split("\n")
+        return judging.is_reached(status, lines) and not judging.unread(lines), lines
+
     def check(self, group, texts, paths):
         """Checks a group's crate with these texts in it, and returns whether all was proved (None if it wasn't read), and the lines."""
         # Without paths that name what to look at, all is looked at.

@@ -14,12 +14,14 @@ TOP = Path(__file__).resolve().parent.parent.parent
 # How many seconds a stand-in may take on the slowest machine.
 SLOW = 600
 # Every stand-in writes down how it was called, and lets as many seconds go by as its name has in
-# the folder takes/.
+# the folder takes/. It says what its name has in the folder says/, or its name with the first word.
 STAND_IN = """#!/bin/sh
 echo "$(basename "$0") $*" >> "$ROOM/calls"
 now=$(cat "$ROOM/now")
 echo $((now + $(cat "$ROOM/takes/$(basename "$0")"))) > "$ROOM/now"
-cat "$ROOM/says/$(basename "$0")"
+says="$ROOM/says/$(basename "$0")"
+[ ! -e "$says $1" ] || says="$says $1"
+cat "$says"
 """
 DATE = '#!/bin/sh\ncat "$ROOM/now"\n'
 # It says how long it would let the command run, and ends it if the clock went further.
@@ -36,12 +38,12 @@ cat "$ROOM/said"
 exit $status
 """
 # How the parts are called before the wrong bodies are.
-BEFORE = ["formatted ", "rt ci", "try-scripts ", "read-texts.py --check", "count-definitions "]
+BEFORE = ["formatted ", "rt ci", "wrong-bodies --compile", "try-scripts ", "read-texts.py --check", "count-definitions "]
 BEFORE += ["layout "]
 BEFORE += ["try-aclctl ", "try-cases ", "try-compare ", "try-trees ", "try-listings ", "try-forms ", "try-kernel ", "try-accounts ", "try-delete ", "try-next ", "try-restore ", "try-changes ", "try-tutorial "]
 BEFORE += ["try-report ", "try-desk ", "try-jobs ", "try-parallel ", "try-streams ", "try-capi ", "try-fuse "]
 BEFORE += ["refused-growths "]
-PARTS = [*(it.split()[0] for it in BEFORE), "wrong-bodies"]
+PARTS = {it.split()[0] for it in BEFORE}
 # How they are called where nothing is proved.
 QUICK = ["formatted ", "layout ", "count-definitions ", "read-texts.py --check", "wrong-bodies --apply"]
 LOOKED_AT = ["look --version", "try-cases --program out/look/unproved-aclctl"]
@@ -74,6 +76,7 @@ class Whole(unittest.TestCase):
             self.write(place(name), STAND_IN)
             self.part(name, 0, "2 passed, 0 failed\n")
         self.part("wrong-bodies", 0, TRIED)
+        (self.room / "says/wrong-bodies --compile").write_text("2 passed, 0 failed\n")
         self.write("dev/dearest", f"#!/bin/sh\necho '{DEAREST}'\n")
         self.write("bin/date", DATE)
         self.write("bin/timeout", TIMEOUT)

@@ -14,7 +14,7 @@ from unittest.mock import patch
 DEV = Path(__file__).resolve().parent.parent.parent / "dev"
 sys.path.insert(0, str(DEV))
 
-from wrong_bodies import crates, edits, functions, grouping, judging, lanes, prover
+from wrong_bodies import compiling, crates, edits, functions, grouping, judging, lanes, prover
 from wrong_bodies.clock import Clock, Ended
 from wrong_bodies.edits import Edit
 from wrong_bodies.functions import Function
@@ -250,6 +250,58 @@ class Bad(unittest.TestCase):
         two = Function("src/lib.rt", 1, 2, "two", "proofs/two")
         self.assertIsNone(self.why("done();", goal, functions=[one, two]))
         self.assertIsNone(self.why("done();", goal, functions=[None]))
+
+
+class Compiling(unittest.TestCase):
+    """Edits of two crates of which one stands on the other, by a front end that knows no name
+    `gone`."""
+
+    GONE = "src/lib.rt:7:5: error: cannot find value `gone`"
+
+    def setUp(self):
+        self.top = Path(self.enterContext(tempfile.TemporaryDirectory()))
+        for it in ("low", "high"):
+            (self.top / f"crates/{it}/src").mkdir(parents=True)
+            (self.top / f"crates/{it}/src/lib.rt").write_text(CODE)
+        self.enterContext(patch.multiple(crates, TOP=self.top, stands_on=lambda: {"low": [], "high": ["low", "itoa"]}))
+        self.enterContext(patch.object(prover.Prover, "compiles", self.compiles))
+        self.checks = []
+
+    def compiles(self, crate, texts):
+        """Whether the front end knows each name, and what it says."""
+        self.checks.append(crate)
+        knows = not any("gone" in it for it in texts.values())
+        return knows, ["only=0 proved=0"] if knows else ["logic: 16 libraries", self.GONE]
+
+    def edits(self, crate, *pairs):
+        """An edit of each pair of texts, named by its place."""
+        return [Edit(crate, f"e{it}", [("src/lib.rt", *pair)]) for it, pair in enumerate(pairs)]
+
+    def compile(self, **found):
+        """How many edits were tried and how many compile, and what is printed."""
+        says = io.StringIO()
+        with redirect_stdout(says):
+            counts = compiling.compile_all(Clock(), found)
+        return counts, says.getvalue().splitlines()
+
+    def test_edits_of_which_none_takes_anothers_text_away_are_compiled_at_once(self):
+        found = self.edits("low", ("        3", "        4"), ("return a", "return 5"), ("done()", "begun()"))
+        self.assertEqual(self.compile(low=found), ((3, 3), []))
+        self.assertEqual(self.checks, ["low"])
+        found += self.edits("low", ("done();", ""))
+        self.assertEqual(self.compile(low=found), ((4, 4), []))
+        self.assertEqual(self.checks, ["low"] * 3)
+
+    def test_each_that_does_not_compile_is_named(self):
+        found = self.edits("low", ("        3", "        gone"), ("return a", "return 5"), ("done()", "gone()"))
+        says = [f"failed: wrong body low/{it}: BAD EDIT: it did not reach the prover: {self.GONE}" for it in ("e0", "e2")]
+        self.assertEqual(self.compile(low=found), ((3, 1), says))
+
+    def test_those_over_a_library_that_is_not_built_are_not_tried(self):
+        found = {it: self.edits(it, ("return a", "return 5")) for it in ("low", "high")}
+        self.assertEqual(self.compile(**found), ((1, 1), ["high stands on low, not built here"]))
+        compiling.library("low").mkdir(parents=True)
+        self.assertEqual(self.compile(**found), ((2, 2), []))
 
 
 class Order(unittest.TestCase):
