@@ -14,7 +14,7 @@ fn is_control(byte: u8) -> bool
     byte < b' ' || byte == 127
 }
 
-/// How many bytes of a path are looked at at once.
+/// How many bytes of a path are compared in one step.
 const CHUNK: usize = 16;
 
 /// Whether any of these bytes is such a control.

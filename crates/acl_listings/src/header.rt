@@ -62,7 +62,7 @@ fn after_file_word(line: &[u8]) -> Option<&[u8]>
     }
 }
 
-/// The text after a word, if the line begins with it. That the word's length is known has it
+/// The text after a word, if the line begins with it. The word's length is known, so that it is
 /// compared in one step.
 pub(crate) fn after_prefix<'t, const N: usize>(word: &[u8; N], line: &'t [u8]) -> Option<&'t [u8]>
     ensures { option_map (λ rest. rest.now) result ≡ after_prefix word.now line.now }

@@ -1,5 +1,4 @@
 //! What is left of two paths behind the front that they share.
-
 ghost use Rattle.std.specs.Prelude.{◌≡◌, ◌≤◌, ◌-◌, ◌⊎◌, get_or, length, take};
 ghost use Rattle.std.specs.Bool.{OnTrue};
 ghost use Rattle.acl_listings.specs.Way.{steps_behind, steps_of};
@@ -47,7 +46,8 @@ fn alike_bytes(one: &[u8], other: &[u8]) -> usize
     alike
 }
 
-/// How many of the first bytes of a path go up to a slash, and with it.
+/// How long the longest front of the path is that ends with a slash and has at most `len` bytes; 0
+/// if there is none.
 fn up_to_slash(path: &[u8], len: usize) -> usize
     requires { len ≤ length path.now }
     ensures bound { result ≤ len }

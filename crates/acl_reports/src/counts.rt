@@ -33,8 +33,9 @@ impl Counts {
     }
 
     /// Counts another block of the listing of this name, with this text, whose first line has this
-    /// number; with its fault, if it has one, and as this of those that name ids without an
-    /// account. Fails with the name if there are more than can be counted, which no listing has.
+    /// number; with its fault, if it has one. `sighting` is what it has to do with ids that no
+    /// account has. Fails with the name if there are more than can be counted, which no listing
+    /// has.
     pub fn add<'n>(
         &mut self,
         name: &'n str,

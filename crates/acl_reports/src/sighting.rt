@@ -1,4 +1,4 @@
-//! What a block has to do with ids that no account has.
+//! The first block that names an id without an account, and those behind it.
 ghost use Rattle.std.specs.Prelude.{◌≡◌, is_some};
 ghost use Rattle.acl_reports.specs.Strangers.{IsSighting};
 
@@ -6,7 +6,7 @@ use crate::blocks::BlockReporter;
 use crate::stranger::Stranger;
 use crate::strangers::Strangers;
 
-/// What is counted of a block.
+/// What a block has to do with ids that no account has.
 #[derive(Clone, Copy, Debug, PartialEq, Eq)]
 pub enum Sighting {
     /// It names no id without an account.
@@ -17,8 +17,8 @@ pub enum Sighting {
     First(Stranger),
 }
 
-/// What the block with this text is counted as, which was pushed last. Its lines are read only if
-/// it is the first that names such an id.
+/// What the block with this text, which was pushed last, has to do with ids that no account has.
+/// Its lines are read only if it is the first that names one.
 pub fn sighting_of<T: BlockReporter>(reporter: &T, strangers: &Strangers, text: &[u8]) -> Sighting
     ensures { T.found reporter.now ≡ is_some (T.stranger reporter.now text.now)
         → IsSighting strangers.now (T.stranger reporter.now text.now) result }

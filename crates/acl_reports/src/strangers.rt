@@ -48,8 +48,9 @@ impl Strangers {
         }
     }
 
-    /// Counts another block, whose first line has this number, as this. `None` if there are more
-    /// than can be counted, which no listing has; then it is no count any more.
+    /// Counts another block, whose first line has this number; `sighting` is what it has to do with
+    /// such ids. `None` if there are more than can be counted, which no listing has; then it is no
+    /// count any more.
     pub fn add(&mut self, line: u64, sighting: Sighting) -> Option<()>
         ensures { (found : Option Stranger) → IsSighting self.old found sighting
             → IfSome result (λ _. self.new ≡ with_stranger self.old line found) }

@@ -104,8 +104,8 @@ pub(crate) trait ChangeReporter {
             ≡ beside.old.items ++ (wording self.now).apart first.now second.now) };
 }
 
-/// What the block with this text is counted as, in which this was found. Its lines are read only if
-/// it is the first that names an id without an account.
+/// What the block with this text, in which this was found, has to do with ids that no account has.
+/// Its lines are read only if it is the first that names one.
 pub(super) fn sighting_of<C: ChangeReporter>(
     reporter: &C,
     strangers: &Strangers,

@@ -116,7 +116,7 @@ impl Seen {
     }
 
     /// Adds a block with this text, whose first line has this number, with its fault, if it has
-    /// one, and as this of those that name ids without an account. `place` is that of the block
+    /// one. `sighting` is what it has to do with ids that no account has, `place` that of the block
     /// before with its path, and `name` the listing's.
     pub fn add<'n>(
         &mut self,
