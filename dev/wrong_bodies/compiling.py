@@ -5,7 +5,7 @@ from concurrent.futures import ThreadPoolExecutor
 from pathlib import Path
 
 from wrong_bodies import crates, judging
-from wrong_bodies.lanes import lane_count
+from wrong_bodies.clock import Ended
 from wrong_bodies.prover import Prover
 
 
@@ -45,22 +45,36 @@ def uncompiled(prover, edits):
     return uncompiled(prover, edits[:half]) + uncompiled(prover, edits[half:])
 
 
-def compile_all(clock, found):
-    """Compiles the edits of crates whose libraries were built, prints which don't, and returns how many were tried and how many do."""
-    tries, failures = [], []
+def tried(prover, edits):
+    """How many edits of a crate were compiled in time, and why those don't compile that don't."""
+    try:
+        return len(edits), uncompiled(prover, edits)
+    except Ended:
+        return 0, []
+
+
+def built(found):
+    """The edits of those crates that stand on built libraries alone; prints which don't."""
+    ready = []
     for crate, edits in found.items():
         lack = [it for it in crates.below(crate) if not library(it).is_dir()]
         if edits and lack:
             print(f"{crate} stands on {', '.join(lack)}, not built here", flush=True)
         elif edits:
-            tries += together(edits)
-    with tempfile.TemporaryDirectory(prefix="wrong-bodies-") as room, ThreadPoolExecutor(lane_count()) as pool:
+            ready += together(edits)
+    return ready
+
+
+def compile_all(clock, found):
+    """Compiles the edits of crates whose libraries are built, prints which don't, and returns how many were tried and how many do."""
+    tries = built(found)
+    with tempfile.TemporaryDirectory(prefix="wrong-bodies-") as room, ThreadPoolExecutor(len(tries) + 1) as pool:
         for it in crates.stands_on():
             Path(room, f"{it}.rlib").symlink_to(library(it))
         prover = Prover(room, clock, {}, None)
-        for lines in pool.map(lambda edits: uncompiled(prover, edits), tries):
-            failures += lines
+        results = [*pool.map(lambda edits: tried(prover, edits), tries)]
+    failures = [it for _, lines in results for it in lines]
     for it in failures:
         print(f"failed: {it}")
-    tried = sum(map(len, tries))
-    return tried, tried - len(failures)
+    count = sum(it for it, _ in results)
+    return count, count - len(failures)

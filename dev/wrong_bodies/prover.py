@@ -65,7 +65,7 @@ class Prover:
 
     def compiles(self, crate, texts):
         """Returns whether a crate with these texts in it compiles, of which nothing is proved, and the lines."""
-        with copy_of(crate, texts) as room:
+        with self.lanes.lane(False, -crates.rank(crate)), copy_of(crate, texts) as room:
             status, text = self.clock.run([*self.words("check", crate), "--only", ""], room)
         lines = text.rstrip("\n").split("\n")
         return judging.is_reached(status, lines) and not judging.unread(lines), lines
