@@ -1,7 +1,7 @@
 -- Rows that are written are read again.
-use Rattle.std.proofs.Common.{◌≡◌, ◌∙◌, ◌≤◌, ◌<◌, ◌+◌, ◌||◌, ◌&&◌, ℕ, zero, suc, Bool, true, false, cond, ◌==◌, nat_le, List, [], ◌∷◌, ◌++◌, map, length, codes, decimal, Option, Some, None, Ok, refl, sym, ap, ap₂, subst, inl, inr, arith, append_assoc, append-nil, length-append}
+use Rattle.std.proofs.Common.{◌≡◌, ◌∙◌, ◌≤◌, ◌+◌, ◌||◌, ◌&&◌, ℕ, Bool, true, false, ◌==◌, nat_le, List, [], ◌∷◌, ◌++◌, map, length, codes, decimal, Some, None, Ok, refl, sym, ap, ap₂, subst, inl, inr, arith, append_assoc, append-nil, length-append}
 use Rattle.std.specs.Char.{is_ascii_digit}
-use Rattle.std.specs.List.{All, AllByRecursion, find, flat_map, join_with_byte, list_all, list_any}
+use Rattle.std.specs.List.{AllByRecursion, find, flat_map, join_with_byte, list_all, list_any}
 use Rattle.std.specs.Prelude.{slice_index}
 use Rattle.std.proofs.lemmas.Bool.{cases_Bool, eqb-true, le-leb, lt-ltb, true≢false}
 use Rattle.std.proofs.lemmas.Bool.Decides.{nat_tests}
@@ -12,16 +12,15 @@ use Rattle.std.proofs.lemmas.List.Folds.{list_any_none}
 use Rattle.std.proofs.lemmas.List.Splits.{slice_split_at}
 use Rattle.std.proofs.lemmas.List.Sums.{AllPass-from_list_all}
 use Rattle.acl_names.specs.Bytes.{colon, comma, newline}
-use Rattle.acl_names.specs.Ids.{begins_name, continues_name, decimal_value, has_name_shape}
+use Rattle.acl_names.specs.Ids.{begins_name, continues_name}
 use Rattle.acl_names.specs.Pieces.{parts}
 use Rattle.acl_names.specs.declared.limits.TheConstants.{MAX_ID, MAX_NAME_LEN}
 use Rattle.acl_names.proofs.Decimals.{digits_model}
 use Rattle.acl_names.proofs.IdTexts.{and_first, and_second, decimal_read}
-use Rattle.acl_accounts.specs.Names.{is_account_name}
-use Rattle.acl_accounts.specs.Rows.{GroupRow, IsGroup, IsPassed, IsUser, Rows, UserRow, is_cut, is_mark, is_numeric, is_user_of, no_rows, number_alone, row_of, rows_from, rows_of, rows_of_lines, unless_cut}
+use Rattle.acl_accounts.specs.Rows.{GroupRow, IsGroup, IsUser, Rows, UserRow, is_cut, is_mark, is_numeric, is_user_of, no_rows, number_alone, row_of, rows_from, rows_of, rows_of_lines}
 use Rattle.acl_accounts.specs.Shapes.{IsGap, IsMember, IsNamed, Lacks, NamesMembers, SaysFields, StandsBehindSpace, WritesNumber}
 use Rattle.acl_accounts.specs.Space.{is_space}
-use Rattle.acl_accounts.specs.Text.{AreNumbered, ArePlain, IsPlainGroup, IsPlainUser, IsShaped, RowsAreReadAgain, group_line, line_with, rows_text, user_line}
+use Rattle.acl_accounts.specs.Text.{AreNumbered, IsPlainGroup, IsPlainUser, IsShaped, RowsAreReadAgain, group_line, line_with, rows_text, user_line}
 use Rattle.acl_accounts.specs.declared.limits.TheConstants.{MAX_ACCOUNT_GROUPS, MAX_ACCOUNT_NAME, MAX_ACCOUNT_USERS}
 use Rattle.acl_accounts.proofs.ShapeLemmas.{read_of_shape}
 

@@ -1,6 +1,6 @@
 -- What the passes make.
 use Rattle.std.proofs.Common.{◌≡◌, ℕ, suc, ◌^◌, ◌≤◌, Bool, true, false, cond, ◌<◌, refl, sym, ap, ◌∙◌}
-use Rattle.std.proofs.Common.{ap₂, subst, List, [], ◌∷◌, ◌++◌, length, get_or, drop, ◌+◌, append-nil}
+use Rattle.std.proofs.Common.{ap₂, subst, List, [], ◌∷◌, ◌++◌, length, get_or, drop, append-nil}
 use Rattle.std.proofs.Common.{length-append, arith, drop-cons, flat_map, ◌==◌, Result, Ok, Err, IfOk, All}
 use Rattle.std.proofs.lemmas.List.Elements.{All-nil, All-cons, All-head, All-tail, All-append, All-filter}
 use Rattle.std.specs.Int.Bits.{or_zero_r}

@@ -1,6 +1,6 @@
 -- What a user gets by creating a file or a folder in a folder of a listing.
 use Rattle.std.specs.Prelude.{ℕ, Bool, ◌+◌, ◌-◌, nat_le, nat_lt, List, [], ◌∷◌}
-use Rattle.std.specs.Prelude.{◌++◌, length, drop, Option, Some, None, Result, Ok, Err, bytes_eq}
+use Rattle.std.specs.Prelude.{◌++◌, length, drop, Some, None, Result, Ok, Err, bytes_eq}
 use Rattle.std.specs.Prelude.{codes, if◌then◌else◌}
 use Rattle.acl_names.specs.Bytes.{newline}
 use Rattle.acl_names.specs.Steps.{◌>>=◌}

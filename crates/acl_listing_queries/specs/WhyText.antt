@@ -11,7 +11,7 @@ use Rattle.acl_listings.specs.declared.fault.BlockFault.TheVariants.{UnknownWay}
 use Rattle.acl_names.specs.Names.{Names}
 use Rattle.acl_names.specs.Requester.{Identity}
 use Rattle.acl_queries.specs.DecideAnswer.{answer_line}
-use Rattle.acl_bridge.specs.Files.{File, may}
+use Rattle.acl_bridge.specs.Files.{may}
 use Rattle.acl_reports.specs.Files.{file_of, files_of}
 use Rattle.acl_reports.specs.Listed.{Part}
 use Rattle.acl_listing_queries.specs.Readings.{Reading, reading_of}

@@ -21,7 +21,6 @@ use Rattle.acl_posix.specs.declared.entry.Tag.{Tag}
 use Rattle.acl_posix.specs.ReadFault.{fault_of_name}
 use Rattle.acl_posix.specs.declared.reading.PieceFault.TheVariants.{Syntax, UnknownName}
 use Rattle.acl_posix.specs.declared.reading.TagWord.{TagWord}
-use Rattle.acl_posix.specs.declared.reading.TagWord.TheVariants as word
 use Rattle.acl_posix.proofs.ReadLemmas.{three_letters-read}
 use Rattle.acl_posix.proofs.RoundTrip.{read_parts, three_pass}
 

@@ -1,5 +1,5 @@
 -- A file names an id without an account exactly if a line of its block does.
-use Rattle.std.proofs.Common.{◌≡◌, ◌∙◌, ◌||◌, ◌++◌, ◌+◌, ℕ, Bool, true, false, cond, List, [], ◌∷◌, Option, Some, None, Result, Ok, Err, ap, ap₂, append-nil, codes, drop, flat_map, is_some, map, refl, sym}
+use Rattle.std.proofs.Common.{◌≡◌, ◌∙◌, ◌||◌, ◌+◌, ℕ, Bool, true, false, cond, List, [], ◌∷◌, Option, Some, None, Result, Ok, Err, ap, ap₂, codes, is_some, map, refl, sym}
 use Rattle.std.specs.List.{list_any}
 use Rattle.std.specs.Option.{option_and_then, option_or}
 use Rattle.std.proofs.lemmas.List.Sorted.{list_any-IsPermutation}
@@ -10,13 +10,12 @@ use Rattle.acl_names.specs.Steps.{map_fault}
 use Rattle.acl_names.proofs.ReadListLemmas.{at_most_read-said}
 use Rattle.acl_names.proofs.StepLemmas.{bind_ok, map_fault-ok}
 use Rattle.acl_names.specs.declared.directory.resolve.NameFault.{NameFault}
-use Rattle.acl_posix.specs.AclText.{entries_of, entry_in, piece_fault}
+use Rattle.acl_posix.specs.AclText.{entries_of, piece_fault}
 use Rattle.acl_posix.specs.Entry.{EntryValue}
 use Rattle.acl_posix.specs.EntryText as posix
 use Rattle.acl_posix.specs.InOrder.{in_order}
 use Rattle.acl_posix.specs.Validity.{fault_of}
 use Rattle.acl_posix.specs.declared.acl.Invalid.{Invalid}
-use Rattle.acl_posix.specs.declared.acl_text.AclFault.{AclFault}
 use Rattle.acl_posix.specs.declared.acl_text.AclFault.TheVariants.{TooMany}
 use Rattle.acl_posix.specs.declared.limits.TheConstants.{MAX_ENTRIES}
 use Rattle.acl_posix.proofs.InOrderLemmas.{in_order-permutation}
@@ -40,9 +39,8 @@ use Rattle.acl_listings.specs.declared.lists.Lists.TheVariants as value
 use Rattle.acl_listings.proofs.FileLines.{file_lines}
 use Rattle.acl_listings.proofs.LinePieces.{pieces-any, posix-any}
 use Rattle.acl_people.specs.Host.{Host, lacks_group, lacks_user, names_of_host}
-use Rattle.acl_reports.specs.Strangers.{entries_in, file_stranger, first_stranger, group_stranger, has_stranger, have_stranger, if_read, is_strange, is_strange_ace, line_stranger, list_stranger, names_stranger, owner_stranger, piece_stranger, placed, stranger_behind, stranger_in, tag_stranger, unless_group, unless_user, who_stranger}
+use Rattle.acl_reports.specs.Strangers.{entries_in, file_stranger, first_stranger, group_stranger, has_stranger, have_stranger, if_read, is_strange, line_stranger, list_stranger, names_stranger, owner_stranger, piece_stranger, placed, stranger_behind, stranger_in, tag_stranger, who_stranger}
 use Rattle.acl_reports.specs.StrangersLaws.{StrangersStandInLines}
-use Rattle.acl_reports.specs.declared.stranger.Stranger.{Stranger}
 
 -- ---- whether there is one
 

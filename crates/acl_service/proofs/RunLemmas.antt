@@ -1,5 +1,5 @@
 -- What came of sessions, by what they print.
-use Rattle.std.proofs.Common.{◌≡◌, ◌≢◌, ◌≤◌, ◌<◌, ◌⊎◌, ◌∙◌, [], ℕ, Bool, List, Option, Result, Ok, Err, Vec, Global, ap, arith, codes, inl, inr, length, refl, subst, sym}
+use Rattle.std.proofs.Common.{◌≡◌, ◌≢◌, ◌≤◌, ◌<◌, ◌⊎◌, ◌∙◌, [], ℕ, Bool, List, Option, Ok, Err, Vec, Global, ap, arith, codes, inl, inr, length, refl, subst, sym}
 use Rattle.std.specs.Prelude.{⊤, ◌↔◌}
 use Rattle.std.specs.Io.KnownBytes.{Appends, Keeps}
 use Rattle.clap.specs.Words.{Row, Text}
@@ -16,7 +16,7 @@ use Rattle.acl_cli.specs.declared.failure.Failure.TheVariants.{CannotRead, Field
 use Rattle.acl_cli.specs.declared.misuse.Misuse.TheVariants.{BadWords, DeleteAndOthers, InputTwice, LettersAndPerms, NoCommand, TooManySessions, TooManyWords}
 use Rattle.acl_cli.specs.declared.run_fault.RunFault.TheVariants.{Memory, NoThread, Output, Stopped}
 use Rattle.acl_cli.proofs.ReportingLemmas.{Reports-nothing}
-use Rattle.acl_service.specs.RunMeaning.{AnswersTexts, run_meaning, texts_meaning}
+use Rattle.acl_service.specs.RunMeaning.{AnswersTexts, run_meaning}
 use Rattle.acl_service.specs.RunTexts.{RunsTexts}
 use Rattle.acl_service.specs.RunWords.{CanRun, HasLimit, sessions_in}
 use Rattle.acl_service.specs.TextsFailures.{IsTextsFailure}

@@ -1,5 +1,5 @@
 -- The exit status of `run`, by its words.
-use Rattle.std.proofs.Common.{◌≡◌, ◌≢◌, ◌≤◌, ◌<◌, ◌⊎◌, ◌∙◌, ℕ, List, Option, Result, Ok, Err, ap, arith, false, true, inl, inr, length, refl, sym}
+use Rattle.std.proofs.Common.{◌≡◌, ◌≢◌, ◌≤◌, ◌<◌, ◌⊎◌, ◌∙◌, ℕ, List, Option, Result, Ok, Err, ap, arith, false, inl, inr, length, sym}
 use Rattle.std.specs.Prelude.{Contains, ◌∷◌}
 use Rattle.std.proofs.lemmas.Bool.{true≢false}
 use Rattle.clap.specs.Words.{Row, Text, fault_of, matches_of}
@@ -15,7 +15,7 @@ use Rattle.acl_cli.proofs.FailureLemmas.{refusal_status, unexplained_not_two}
 use Rattle.acl_service.specs.Files.{IsFilesFailure}
 use Rattle.acl_service.specs.RunLaws.{CannotRun, StatusesReportTheWords}
 use Rattle.acl_service.specs.RunLine.{run_line}
-use Rattle.acl_service.specs.RunMeaning.{AnswersFiles, FailsOfFiles, run_meaning}
+use Rattle.acl_service.specs.RunMeaning.{FailsOfFiles, run_meaning}
 use Rattle.acl_service.specs.RunWords.{CanRun, sessions_in}
 use Rattle.acl_service.proofs.RunLemmas.{usage_is_too_many}
 

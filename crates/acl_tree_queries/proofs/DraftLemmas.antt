@@ -1,5 +1,5 @@
 -- `who --draft` answers of a tree's listing what `check` answers of the tree.
-use Rattle.std.proofs.Common.{◌≡◌, ◌∙◌, ◌==◌, ◌&&◌, ℕ, Bool, true, List, [], ◌∷◌, Some, IfOk, Result, Ok, Err, ap, append-nil, cond, map as each, nat_cmp, refl, subst, sym}
+use Rattle.std.proofs.Common.{◌≡◌, ◌∙◌, ◌==◌, ◌&&◌, ℕ, Bool, true, List, [], ◌∷◌, Some, IfOk, Result, Ok, ap, append-nil, cond, map as each, nat_cmp, refl, subst, sym}
 use Rattle.std.specs.Cmp.Lexicographic.{slice_cmp}
 use Rattle.std.specs.FinMap as map
 use Rattle.std.specs.FinMap.{entries_sorted, get-entries}
@@ -24,7 +24,7 @@ use Rattle.acl_listings.specs.declared.lists.Lists.TheVariants as lists
 use Rattle.acl_names.specs.Bits.{has_all}
 use Rattle.acl_names.specs.Directory.{Known, requester_of}
 use Rattle.acl_names.specs.Names.{Names}
-use Rattle.acl_names.specs.Requester.{Identity, is_in_group}
+use Rattle.acl_names.specs.Requester.{Identity}
 use Rattle.acl_nfs4.specs.Evaluation.{allows, places_of}
 use Rattle.acl_nfs4.specs.Mask.{mask_of}
 use Rattle.acl_nfs4.specs.Who.{matches}
@@ -41,7 +41,7 @@ use Rattle.acl_tree.specs.Commands.{granted_or_denied}
 use Rattle.acl_tree.specs.Entries.{Entry}
 use Rattle.acl_tree.specs.NodeAcls as acls
 use Rattle.acl_tree.specs.Nodes as nodes
-use Rattle.acl_tree.specs.Steps.{Outcome, ◌>>=◌, or_refused}
+use Rattle.acl_tree.specs.Steps.{◌>>=◌, or_refused}
 use Rattle.acl_tree.specs.Tree.{NodesUnderUmask}
 use Rattle.acl_tree.specs.Walk.{IsWalk}
 use Rattle.acl_tree.specs.declared.faults.TreeFault.TheVariants.{NoSuchPath}

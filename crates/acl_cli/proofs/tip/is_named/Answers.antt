@@ -1,4 +1,4 @@
-use Rattle.std.proofs.Common.{rules, ◌≡◌, ◌∙◌, ◌&&◌, ap, ap₂, codes, drop, false, length, nat_eq, sym, take, true}
+use Rattle.std.proofs.Common.{rules, ◌≡◌, ◌∙◌, ◌&&◌, ap, ap₂, codes, drop, false, nat_eq, sym, take, true}
 use Rattle.std.specs.Cmp.Lexicographic.{pointwise}
 use Rattle.acl_cli.proofs.TipLemmas.{front_apart}
 use Rattle.acl_cli.proofs.tip.is_named.Goals as goal

@@ -1,4 +1,4 @@
-use Rattle.acl_posix.proofs.FrontLemmas.{tag_resolved, tag_unresolved}
+use Rattle.acl_posix.proofs.FrontLemmas.{tag_resolved}
 use Rattle.acl_posix.specs.declared.entry.Tag.TheVariants.{User}
 use Rattle.acl_posix.proofs.reading.read_user.Goals as goal
 

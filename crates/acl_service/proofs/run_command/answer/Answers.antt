@@ -1,15 +1,15 @@
 use Rattle.std.proofs.Common.{◌≡◌, ◌∙◌, ℕ, Bool, Bor, List, Option, Err, Result, Vec, Global, ap, codes, length, map, subst, sym}
 use Rattle.std.proofs.lemmas.List.{length-map}
 use Rattle.std.proofs.lemmas.Result.{err_from_is_err_and}
-use Rattle.clap.specs.Words.{Row, Text, found_of, rows_of}
+use Rattle.clap.specs.Words.{Text, found_of, rows_of}
 use Rattle.acl_cli.specs.Commands.{Comes}
 use Rattle.acl_cli.specs.Fields.{flag_in}
-use Rattle.acl_cli.specs.SessionFiles.{HasBytes, HaveBytes, input_count, setup_in}
+use Rattle.acl_cli.specs.SessionFiles.{HasBytes, HaveBytes, input_count}
 use Rattle.acl_cli.specs.declared.command.Ending.{Ending}
 use Rattle.acl_cli.specs.declared.failure.Failure.{Failure}
 use Rattle.acl_service.specs.RunMeaning.{run_meaning}
 use Rattle.acl_service.specs.RunTexts.{RunsTexts}
-use Rattle.acl_service.specs.RunWords.{CanRun, sessions_in}
+use Rattle.acl_service.specs.RunWords.{CanRun}
 use Rattle.acl_service.specs.TextsFailures.{IsTextsFailure}
 use Rattle.acl_service.proofs.RunLemmas.{files_failed, files_ran}
 use Rattle.acl_service.proofs.run_command.answer.Goals as goal

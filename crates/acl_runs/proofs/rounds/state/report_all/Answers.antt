@@ -1,4 +1,4 @@
-use Rattle.std.proofs.Common.{◌≡◌, ◌+◌, ◌++◌, ◌∷◌, [], map, vec_items, sym, ap, ◌∙◌, append_assoc, append-nil, refl, rules, arith}
+use Rattle.std.proofs.Common.{◌≡◌, ◌++◌, ◌∷◌, [], map, vec_items, sym, ap, ◌∙◌, append_assoc, append-nil, refl, rules, arith}
 use Rattle.std.specs.Vec.Iter.{into_iter_items}
 use Rattle.std.proofs.lemmas.List.{nil_from_length}
 use Rattle.acl_runs.proofs.rounds.state.report_all.Goals as goal

@@ -11,7 +11,7 @@ use Rattle.acl_reports.specs.Strangers.{stranger_in}
 use Rattle.acl_reports.specs.declared.stranger.Stranger.{Stranger}
 use Rattle.acl_people.specs.Asked.{names_of_people, persons_of}
 use Rattle.acl_people.proofs.AskedLemmas.{persons_again}
-use Rattle.acl_listing_queries.specs.WhoMeaning.{WhoAnswers, WhoAsked, asking_in, reach_in, who_meaning}
+use Rattle.acl_listing_queries.specs.WhoMeaning.{WhoAnswers, WhoAsked, asking_in, who_meaning}
 use Rattle.acl_listing_queries.specs.WhoPart.{Asking, who_part}
 use Rattle.acl_listing_queries.specs.WhoSteps.{question_of}
 use Rattle.acl_listing_queries.proofs.who.command.WhoCliCommand.answer.Goals as goal
