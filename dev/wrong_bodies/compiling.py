@@ -46,8 +46,15 @@ def uncompiled(prover, edits):
 
 
 def tried(prover, edits):
-    """How many edits of a crate were compiled in time, and why those don't compile that don't."""
+    """How many edits of a crate were compiled in time, and why those don't compile that don't. Of a crate that doesn't compile by
+    itself, over libraries of other sources, say, none is."""
+    crate = edits[0].crate
     try:
+        if prover.compiles(crate, texts_of(edits))[0]:
+            return len(edits), []
+        if not prover.compiles(crate, {})[0]:
+            print(f"{crate} doesn't compile over the libraries that are built here", flush=True)
+            return 0, []
         return len(edits), uncompiled(prover, edits)
     except Ended:
         return 0, []

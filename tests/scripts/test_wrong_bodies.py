@@ -265,12 +265,12 @@ class Compiling(unittest.TestCase):
             (self.top / f"crates/{it}/src/lib.rt").write_text(CODE)
         self.enterContext(patch.multiple(crates, TOP=self.top, stands_on=lambda: {"low": [], "high": ["low", "itoa"]}))
         self.enterContext(patch.object(prover.Prover, "compiles", self.compiles))
-        self.checks = []
+        self.checks, self.stale = [], None
 
     def compiles(self, crate, texts):
         """Whether the front end knows each name, and what it says."""
         self.checks.append(crate)
-        knows = not any("gone" in it for it in texts.values())
+        knows = crate != self.stale and not any("gone" in it for it in texts.values())
         return knows, ["only=0 proved=0"] if knows else ["logic: 16 libraries", self.GONE]
 
     def edits(self, crate, *pairs):
@@ -302,6 +302,12 @@ class Compiling(unittest.TestCase):
         self.assertEqual(self.compile(**found), ((1, 1), ["high stands on low, not built here"]))
         compiling.library("low").mkdir(parents=True)
         self.assertEqual(self.compile(**found), ((2, 2), []))
+
+    def test_none_of_a_crate_that_does_not_compile_itself_is_tried(self):
+        self.stale = "low"
+        found = self.edits("low", ("return a", "return 5"), ("done()", "gone()"))
+        says = "low doesn't compile over the libraries that are built here"
+        self.assertEqual(self.compile(low=found), ((0, 0), [says]))
 
 
 class Order(unittest.TestCase):
